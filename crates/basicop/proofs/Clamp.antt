@@ -1,0 +1,113 @@
+-- The clamp, for any width. Assumes nothing.
+use mathlib.Core.Path.{_≡_, refl, sym, ap, _∙_, subst}
+use mathlib.Core.Bool.{Bool, true, false, cond}
+use Prim.Native.Nat.{ℕ, zero, suc, min, _+_, _*_, _-_, _^_, _<_, _≤_}
+use native.Mathlib.Nat.{zero-mul}
+use native.Mathlib.Omega.{arith}
+use borrow.Author.Tests.{leb-true, leb-false, ltb-true, ltb-false}
+use lib.Dec.{leb, ltb}
+use lib.Pow.{pow-mono, pow-pos}
+use lib.IntN.{ℤ, pos, negsuc, negℤ, _*ℤ_}
+use lib.Signed.{_≤ℤ_, ltZ}
+use mir.Syntax.{Width}
+use mir.Val.{SFits, hbits, toZ, ofZ}
+use mir.Facts.{toZ-ofZ}
+use Rattle.basicop.specs.Ops.{clamp, least, most}
+use Rattle.basicop.proofs.Ints.{arithℤ}
+
+-- by its two tests
+pub clamp-low : (w : Width) (z : ℤ) → ltZ z (least w) ≡ true → clamp w z ≡ least w
+unfolding clamp
+clamp-low w z e = rw e
+
+pub clamp-high : (w : Width) (z : ℤ) → ltZ z (least w) ≡ false → ltZ (most w) z ≡ true → clamp w z ≡ most w
+unfolding clamp
+clamp-high w z e f = rw (e, f)
+
+pub clamp-mid : (w : Width) (z : ℤ) → ltZ z (least w) ≡ false → ltZ (most w) z ≡ false → clamp w z ≡ z
+unfolding clamp
+clamp-mid w z e f = rw (e, f)
+
+-- by the size: `mag` is held to 2 ^ (w - 1) - 1
+pub clamp-pos : (w : Width) (n : ℕ) → clamp w (pos n) ≡ pos (min n (2 ^ hbits w - 1))
+unfolding clamp
+clamp-pos w n = go (ltb (2 ^ hbits w - 1) n) refl
+  where
+    go : (t : Bool) → ltb (2 ^ hbits w - 1) n ≡ t → cond t (most w) (pos n) ≡ pos (min n (2 ^ hbits w - 1))
+    go true e = ap pos (omega (arith, ltb-true))
+    go false e = ap pos (omega (arith, ltb-false))
+
+pub clamp-neg : (w : Width) (n : ℕ) → clamp w (negsuc n) ≡ negsuc (min n (2 ^ hbits w - 1))
+unfolding clamp
+clamp-neg w n = go (ltb (2 ^ hbits w - 1) n) refl
+  where
+    go : (t : Bool) → ltb (2 ^ hbits w - 1) n ≡ t → cond t (least w) (negsuc n) ≡ negsuc (min n (2 ^ hbits w - 1))
+    go true e = ap negsuc (omega (arith, ltb-true))
+    go false e = ap negsuc (omega (arith, ltb-false))
+
+pub clamp-fits : (w : Width) (z : ℤ) → SFits w (clamp w z)
+clamp-fits w (pos n) = rw (clamp-pos w n) (record { sfits = omega (arith, pow-pos (hbits w)) })
+clamp-fits w (negsuc n) = rw (clamp-neg w n) (record { sfits = omega (arith, pow-pos (hbits w)) })
+
+-- the identity inside, idempotent, monotone
+pub clamp-id : (w : Width) (z : ℤ) → SFits w z → clamp w z ≡ z
+clamp-id w (pos n) h = clamp-pos w n ∙ ap pos (omega (arith, h .sfits))
+clamp-id w (negsuc n) h = clamp-neg w n ∙ ap negsuc (omega (arith, h .sfits))
+
+pub clamp-idem : (w : Width) (z : ℤ) → clamp w (clamp w z) ≡ clamp w z
+clamp-idem w z = clamp-id w (clamp w z) (clamp-fits w z)
+
+pub clamp-mono : (w : Width) (a b : ℤ) → a ≤ℤ b → clamp w a ≤ℤ clamp w b
+clamp-mono w (pos a) (pos b) h = rw (clamp-pos w a, clamp-pos w b) (omega arithℤ)
+clamp-mono w (pos a) (negsuc b) h = absurd (h .le)
+clamp-mono w (negsuc a) (pos b) h = rw (clamp-neg w a, clamp-pos w b) (omega arithℤ)
+clamp-mono w (negsuc a) (negsuc b) h = rw (clamp-neg w a, clamp-neg w b) (omega arithℤ)
+
+-- a wider clamp before it changes nothing
+pub clamp-clamp : (w v : Width) (z : ℤ) → hbits w ≤ hbits v → clamp w (clamp v z) ≡ clamp w z
+clamp-clamp w v (pos n) h = rw (clamp-pos v n) (clamp-pos w (min n (2 ^ hbits v - 1)) ∙ ap pos (omega (arith, pow-mono h)) ∙ sym (clamp-pos w n))
+clamp-clamp w v (negsuc n) h = rw (clamp-neg v n) (clamp-neg w (min n (2 ^ hbits v - 1)) ∙ ap negsuc (omega (arith, pow-mono h)) ∙ sym (clamp-neg w n))
+
+-- ---- far beyond the range: a product with 2 ^ m is clamped alike for every m that is at least the width less 1
+clamp-over : (w : Width) (n : ℕ) → 2 ^ hbits w ≤ n → clamp w (pos n) ≡ most w
+clamp-over w n h = clamp-pos w n ∙ ap pos (omega (arith, pow-pos (hbits w)))
+
+clamp-under : (w : Width) (n : ℕ) → 2 ^ hbits w ≤ n → clamp w (negℤ (pos n)) ≡ least w
+clamp-under w zero h = absurd (no (pow-pos (hbits w)))
+  where
+    no : 0 < 2 ^ hbits w → ⊥
+    no p = omega arith
+clamp-under w (suc n) h = clamp-neg w n ∙ ap negsuc (omega (arith, pow-pos (hbits w)))
+
+pub clamp-far : (w : Width) (x : ℤ) (m n : ℕ) → hbits w ≤ m → hbits w ≤ n → clamp w (x *ℤ pos (2 ^ m)) ≡ clamp w (x *ℤ pos (2 ^ n))
+clamp-far w (pos zero) m n h k = ap (λ (i : ℕ). clamp w (pos i)) (zero-mul (2 ^ m) ∙ sym (zero-mul (2 ^ n)))
+clamp-far w (pos (suc a)) m n h k = over m h ∙ sym (over n k)
+  where
+    over : (m : ℕ) → hbits w ≤ m → clamp w (pos (suc a * 2 ^ m)) ≡ most w
+    over m h = clamp-over w (suc a * 2 ^ m) (omega (arith, pow-mono {i = hbits w} {j = m} h))
+clamp-far w (negsuc a) m n h k = under m h ∙ sym (under n k)
+  where
+    under : (m : ℕ) → hbits w ≤ m → clamp w (negℤ (pos (suc a * 2 ^ m))) ≡ least w
+    under m h = clamp-under w (suc a * 2 ^ m) (omega (arith, pow-mono {i = hbits w} {j = m} h))
+
+-- so a count above the width less 1 may be held to that
+pub clamp-min : (w : Width) (x : ℤ) (n : ℕ) → clamp w (x *ℤ pos (2 ^ min n (hbits w))) ≡ clamp w (x *ℤ pos (2 ^ n))
+clamp-min w x n = go (leb n (hbits w)) refl
+  where
+    go : (t : Bool) → leb n (hbits w) ≡ t → clamp w (x *ℤ pos (2 ^ min n (hbits w))) ≡ clamp w (x *ℤ pos (2 ^ n))
+    go true e = ap (λ (i : ℕ). clamp w (x *ℤ pos (2 ^ i))) (omega (arith, leb-true))
+    go false e = clamp-far w x (min n (hbits w)) n (omega (arith, leb-false)) (omega (arith, leb-false))
+
+-- ---- a function that tests against the ends of the range of w, at a wider v: its three answers. The tests are as a branch has them, of the bits read back
+module _ (w v : Width) (z : ℤ) (fit : SFits v z) where
+  pub held-low : ltZ (toZ v (ofZ v z)) (least w) ≡ true → least w ≡ clamp w z
+  held-low e = sym (clamp-low w z (rw (toZ-ofZ fit) at e))
+
+  pub held-high : ltZ (toZ v (ofZ v z)) (least w) ≡ false → ltZ (most w) (toZ v (ofZ v z)) ≡ true → most w ≡ clamp w z
+  held-high e f = sym (clamp-high w z (rw (toZ-ofZ fit) at e) (rw (toZ-ofZ fit) at f))
+
+  pub held-fits : ltZ (toZ v (ofZ v z)) (least w) ≡ false → ltZ (most w) (toZ v (ofZ v z)) ≡ false → SFits w (toZ v (ofZ v z))
+  held-fits e f = rw (toZ-ofZ fit) (subst (SFits w) (clamp-mid w z (rw (toZ-ofZ fit) at e) (rw (toZ-ofZ fit) at f)) (clamp-fits w z))
+
+  pub held-mid : (e : ltZ (toZ v (ofZ v z)) (least w) ≡ false) (f : ltZ (most w) (toZ v (ofZ v z)) ≡ false) → toZ w (ofZ w (toZ v (ofZ v z))) ≡ clamp w z
+  held-mid e f = toZ-ofZ (held-fits e f) ∙ toZ-ofZ fit ∙ sym (clamp-mid w z (rw (toZ-ofZ fit) at e) (rw (toZ-ofZ fit) at f))

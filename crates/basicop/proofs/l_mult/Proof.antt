@@ -1,0 +1,30 @@
+use mir.Syntax.{w16, w32}
+use Rattle.basicop.specs.Ops.{L-mult}
+use Rattle.lists.proofs.Signed.{got}
+use Rattle.basicop.proofs.Calls.{needsℤ}
+use Rattle.basicop.proofs.l_mult.Statement.{statement}
+use Rattle.basicop.proofs.l_mult.Tie as tie
+
+cast-clamp32 : tie.Need-cast-clamp32
+cast-clamp32 c = search needsℤ
+
+cast-clamp32-2 : tie.Need-cast-clamp32-2
+cast-clamp32-2 c = search needsℤ
+
+mul-clamp32 : tie.Need-mul-clamp32
+mul-clamp32 c = search needsℤ
+
+mul-clamp32-2 : tie.Need-mul-clamp32-2
+mul-clamp32-2 c = search needsℤ
+
+clamp32-requires : tie.Need-clamp32-requires
+clamp32-requires c κs = search needsℤ
+
+returns : tie.Need-returns
+unfolding L-mult
+returns c = search (got w32 (c .clamp32 .ok) (c .clamp32 .ensures), needsℤ) depth 9
+
+pub l-mult-spec : {M : Type 1} → statement M
+l-mult-spec =
+    tie.close
+    (tie.spec cast-clamp32 cast-clamp32-2 mul-clamp32 mul-clamp32-2 clamp32-requires returns)

@@ -1,0 +1,56 @@
+-- Entries of lists that are made from others. Assumes nothing.
+use Prim.Native.Nat.{ℕ, zero, suc, _+_, _-_, _≤_, _<_}
+use mathlib.Core.Path.{_≡_, refl, sym, ap, _∙_}
+use mathlib.Core.List.{List, [], _∷_, _++_, map}
+use mathlib.Core.Logic.{⊎-elim}
+use native.Mathlib.Numerals.{add-one}
+use native.Mathlib.Nat.{add-comm, not-suc-le-zero, le-of-suc-le-suc, eq-or-lt-of-le}
+use native.Mathlib.Omega.{arith}
+use lib.ListN.{length, drop, length-append, List·getD-append}
+use lib.Seq.{getD-at, getD-drop, getD-append-add}
+use lib.IntN.{ℤ, pos}
+use Rattle.lists.specs.Lists.{at, tab, pairwise}
+
+pub at-drop : (xs : List ℤ) (k i : ℕ) → at xs (i + k) ≡ at (drop k xs) i
+at-drop xs k i = rw (getD-drop, add-comm k i)
+
+pub at-map : (f : ℤ → ℤ) (xs : List ℤ) (i : ℕ) → i < length xs → f (at xs i) ≡ at (map f xs) i
+at-map f [] i h = absurd (not-suc-le-zero h)
+at-map f (x ∷ xs) zero h = refl
+at-map f (x ∷ xs) (suc i) h = at-map f xs i (le-of-suc-le-suc h)
+
+pub at-left : (xs ys : List ℤ) (i : ℕ) → i < length xs → at xs i ≡ at (xs ++ ys) i
+at-left xs ys i h = sym (List·getD-append xs ys (pos 0) i h)
+
+pub at-right : (xs ys : List ℤ) (n i : ℕ) → length xs ≡ n → n ≤ i → at ys (i - n) ≡ at (xs ++ ys) i
+at-right xs ys n i e h =
+    let k : i ≡ length xs + (i - n) = omega (arith, e) in
+    sym (ap (at (xs ++ ys)) k ∙ getD-append-add xs ys (i - n) (pos 0))
+
+-- ---- a list that is given by its entries
+pub length-tab : (f : ℕ → ℤ) (n : ℕ) → length (tab f n) ≡ n
+unfolding tab
+length-tab f zero = refl
+length-tab f (suc n) = length-append (tab f n) (f n ∷ []) ∙ rw (length-tab f n) (add-one n)
+
+pub at-tab : (f : ℕ → ℤ) (n i : ℕ) → i < n → f i ≡ at (tab f n) i
+unfolding tab
+at-tab f zero i h = absurd (not-suc-le-zero h)
+at-tab f (suc n) i h =
+    ⊎-elim
+    (λ (e : i ≡ n). rw e (sym (getD-at (tab f n) (f n) [] (pos 0) n (length-tab f n))))
+    (λ (l : i < n).
+    at-tab f n i l ∙ at-left (tab f n) (f n ∷ []) i (rw (length-tab f n) l))
+    (eq-or-lt-of-le (le-of-suc-le-suc h))
+
+-- ---- two lists of the same length, entry by entry
+pub length-pairwise : (f : ℤ → ℤ → ℤ) (xs ys : List ℤ) → length xs ≡ length ys → length (pairwise f xs ys) ≡ length xs
+length-pairwise f [] ys e = refl
+length-pairwise f (x ∷ xs) [] e = cc
+length-pairwise f (x ∷ xs) (y ∷ ys) e = ap suc (length-pairwise f xs ys (omega (arith, e)))
+
+pub at-pairwise : (f : ℤ → ℤ → ℤ) (xs ys : List ℤ) (i : ℕ) → i < length xs → i < length ys → f (at xs i) (at ys i) ≡ at (pairwise f xs ys) i
+at-pairwise f [] ys i h k = absurd (not-suc-le-zero h)
+at-pairwise f (x ∷ xs) [] i h k = absurd (not-suc-le-zero k)
+at-pairwise f (x ∷ xs) (y ∷ ys) zero h k = refl
+at-pairwise f (x ∷ xs) (y ∷ ys) (suc i) h k = at-pairwise f xs ys i (le-of-suc-le-suc h) (le-of-suc-le-suc k)

@@ -1,0 +1,31 @@
+-- A loop that feeds on what it made: the first off + n places of buf are the list so far. Assumes nothing.
+use Prim.Native.Nat.{ℕ, suc, _+_, _<_}
+use mathlib.Core.Path.{_≡_, sym, _∙_}
+use mathlib.Core.List.{List}
+use native.Mathlib.Nat.{add-zero}
+use native.Mathlib.Omega.{arith}
+use lib.ListN.{length, set, take, length-set}
+use lib.Seq.{take-suc-set, take-all}
+use lib.IntN.{ℤ}
+use Rattle.lists.specs.Lists.{iter, grow}
+use Rattle.lists.proofs.Count.{Iter, iter-none, iter-more, iter-done}
+
+pub record Grown (g : ℕ → List ℤ → ℤ) (base : List ℤ) (off len : ℕ) (buf : List ℤ) (n : ℕ) : Type 0 where
+  pub room : length buf ≡ len
+  pub made : Iter (grow g) base (take (off + n) buf) n
+
+pub grown-none : {g : ℕ → List ℤ → ℤ} {base : List ℤ} {off len : ℕ} {buf : List ℤ} → length buf ≡ len → take off buf ≡ base → Grown g base off len buf 0
+grown-none {off = off} {buf = buf} l e = record { room = l; made = iter-none (rw (add-zero off) e) }
+
+pub grown-more : {g : ℕ → List ℤ → ℤ} {base : List ℤ} {off len : ℕ} {buf : List ℤ} {n : ℕ} {v : ℤ} → Grown g base off len buf n → v ≡ g n (take (off + n) buf) → off + n < len → Grown g base off len (set buf (off + n) v) (n + 1)
+grown-more {g} {base} {off} {len} {buf} {n} {v} r e h =
+    let lb : off + n < length buf = omega (arith, r .room) in
+    let k : off + (n + 1) ≡ suc (off + n) = omega arith in
+    record {
+      room = length-set buf (off + n) v ∙ r .room;
+      made = iter-more (r .made) (rw k (take-suc-set buf (off + n) v lb ∙ rw e));
+    }
+
+-- the last place is written
+pub grown-done : {g : ℕ → List ℤ → ℤ} {base : List ℤ} {off len : ℕ} {buf : List ℤ} {n : ℕ} → Grown g base off len buf n → (m : ℕ) → n ≡ m → off + m ≡ len → buf ≡ iter (grow g) m base
+grown-done {off = off} {buf = buf} {n = n} r m e h = sym (take-all (off + n) buf (omega (arith, r .room))) ∙ iter-done (r .made) m e
