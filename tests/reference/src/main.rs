@@ -1,0 +1,169 @@
+//! `reference COMMAND`: see USAGE.
+
+use reference::{
+    bench, coverage,
+    files::{self, FILES, Field, File},
+    report::Report,
+    values,
+};
+use std::{
+    env, fs,
+    io::{self, Read},
+    path::Path,
+    process::ExitCode,
+};
+
+const USAGE: &str = "\
+reference values         document 01's values to hold, against the reference
+reference write DIR      writes the recorded answers into DIR
+reference check DIR      makes them again and compares them with the files in DIR
+reference show FILE      prints a recorded file, one record a line
+reference coverage DIR   counts what the files in DIR cover
+reference layout         the tables of the files, in Markdown
+reference bench          the bench program's lines for standard input";
+
+fn main() -> ExitCode {
+    let arguments: Vec<String> = env::args().skip(1).collect();
+    let arguments: Vec<&str> = arguments.iter().map(String::as_str).collect();
+    let good = match arguments[..] {
+        ["values"] => values::run(),
+        ["write", folder] => write(Path::new(folder)),
+        ["check", folder] => check(Path::new(folder)),
+        ["show", file] => show(Path::new(file)),
+        ["coverage", folder] => coverage::run(Path::new(folder)),
+        ["layout"] => {
+            print!("{}", files::layout());
+            true
+        }
+        ["bench"] => bench(),
+        _ => {
+            eprintln!("{USAGE}");
+            false
+        }
+    };
+    if good {
+        ExitCode::SUCCESS
+    } else {
+        ExitCode::FAILURE
+    }
+}
+
+fn failed(what: &str, error: io::Error) -> bool {
+    eprintln!("reference: {what}: {error}");
+    false
+}
+
+fn write(folder: &Path) -> bool {
+    if let Err(error) = fs::create_dir_all(folder) {
+        return failed(&folder.display().to_string(), error);
+    }
+    for file in &FILES {
+        let bytes = file.bytes();
+        let records = bytes.len() / (2 * file.record_words());
+        if let Err(error) = fs::write(folder.join(file.name), &bytes) {
+            return failed(file.name, error);
+        }
+        println!("{}: {records} records, {} bytes", file.name, bytes.len());
+    }
+    true
+}
+
+fn check(folder: &Path) -> bool {
+    let mut report = Report::default();
+    for file in &FILES {
+        let wanted = file.bytes();
+        match fs::read(folder.join(file.name)) {
+            Ok(found) if found == wanted => {
+                let records = wanted.len() / (2 * file.record_words());
+                report.line(true, &format!("{}: {records} records", file.name));
+            }
+            Ok(found) => {
+                let same = wanted
+                    .iter()
+                    .zip(&found)
+                    .take_while(|(a, b)| a == b)
+                    .count();
+                let record = same / (2 * file.record_words());
+                report.line(
+                    false,
+                    &format!("{}: differs from record {record} on", file.name),
+                );
+            }
+            Err(error) => report.line(false, &format!("{}: {error}", file.name)),
+        }
+    }
+    let mut unknown = Vec::new();
+    match fs::read_dir(folder) {
+        Ok(entries) => {
+            for entry in entries.flatten() {
+                let name = entry.file_name().to_string_lossy().into_owned();
+                if name != "README.md" && files::find(&name).is_none() {
+                    unknown.push(name);
+                }
+            }
+        }
+        Err(error) => unknown.push(error.to_string()),
+    }
+    unknown.sort();
+    for name in unknown {
+        report.line(
+            false,
+            &format!("{name}: not a file of the recorded answers"),
+        );
+    }
+    report.end()
+}
+
+fn show(path: &Path) -> bool {
+    let name = path.file_name().unwrap_or_default().to_string_lossy();
+    let Some(file) = files::find(&name) else {
+        eprintln!("reference: {name}: not a file of the recorded answers");
+        return false;
+    };
+    let bytes = match fs::read(path) {
+        Ok(bytes) => bytes,
+        Err(error) => return failed(&name, error),
+    };
+    let Some(records) = file.records(&bytes) else {
+        eprintln!("reference: {name}: not a whole number of records");
+        return false;
+    };
+    for (number, record) in records.iter().enumerate() {
+        println!("{number}: {}", line(file, record));
+    }
+    true
+}
+
+fn line(file: &File, record: &[i16]) -> String {
+    let (inputs, answers) = record.split_at(file.input_words());
+    let side = |fields: &[Field], mut words: &[i16]| {
+        let mut parts = Vec::new();
+        for field in fields {
+            let (own, rest) = words.split_at(field.words());
+            words = rest;
+            let numbers: Vec<String> = if field.long {
+                own.chunks(2)
+                    .map(|pair| files::to_long(pair).to_string())
+                    .collect()
+            } else {
+                own.iter().map(i16::to_string).collect()
+            };
+            parts.push(format!("{}: {}", field.name, numbers.join(" ")));
+        }
+        parts.join("; ")
+    };
+    format!(
+        "{} => {}",
+        side(file.inputs, inputs),
+        side(file.answers, answers)
+    )
+}
+
+fn bench() -> bool {
+    let mut input = Vec::new();
+    if let Err(error) = io::stdin().read_to_end(&mut input) {
+        return failed("standard input", error);
+    }
+    print!("{}", bench::lines(&input));
+    true
+}

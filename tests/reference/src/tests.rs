@@ -1,0 +1,103 @@
+use crate::{
+    FRAME, LSFS, ROW, SHEET, STATE, SUBFRAME, SUBFRAMES, at,
+    files::{self, FILES},
+    frame::frame,
+    part, record, values,
+};
+use std::{fs, path::PathBuf};
+
+fn vectors(name: &str) -> PathBuf {
+    [env!("CARGO_MANIFEST_DIR"), "..", "vectors", name]
+        .iter()
+        .collect()
+}
+
+#[test]
+fn values_hold() {
+    assert!(values::run());
+}
+
+#[test]
+fn readme_has_every_layout() {
+    let readme = fs::read_to_string(vectors("README.md")).expect("the vectors have a README.md");
+    assert!(readme.contains(files::layout().trim_end()));
+}
+
+#[test]
+fn answers_come_from_the_reference() {
+    for file in &FILES {
+        let bytes = fs::read(vectors(file.name)).expect("the file was written");
+        for record in file.records(&bytes).expect("whole records") {
+            let (input, answer) = record.split_at(file.input_words());
+            assert_eq!((file.answer)(input), answer, "{}", file.name);
+        }
+    }
+}
+
+/// Demand 3's recurrence: 23 whole numbers a sample, none clamped. Nothing where one of them leaves
+/// 32 bits.
+fn whole(row: &[i16; ROW], history: &[i16; LSFS], x: &[i16; SUBFRAME]) -> Option<Vec<i16>> {
+    let mut y = history.to_vec();
+    for n in 0..SUBFRAME {
+        let mut steps = vec![2 * i64::from(row[0]) * i64::from(x[n])];
+        let mut sum = steps[0];
+        for k in 1..ROW {
+            let product = 2 * i64::from(row[k]) * i64::from(y[LSFS + n - k]);
+            sum -= product;
+            steps.extend([product, sum]);
+        }
+        steps.extend([8 * sum, 8 * sum + 32768]);
+        assert_eq!(steps.len(), 23);
+        if steps.iter().any(|&step| i32::try_from(step).is_err()) {
+            return None;
+        }
+        y.push(((8 * sum + 32768) >> 16) as i16);
+    }
+    Some(y[LSFS..].to_vec())
+}
+
+#[test]
+fn overflow_follows_the_recurrence() {
+    let file = files::find("synthesis.bin").expect("the file is listed");
+    let bytes = fs::read(vectors(file.name)).expect("the file was written");
+    for record in file.records(&bytes).expect("whole records") {
+        let excitation = part(&record, ROW + LSFS);
+        let samples = whole(&part(&record, 0), &part(&record, ROW), &excitation);
+        let answer = &record[file.input_words()..];
+        assert_eq!(answer[SUBFRAME], i16::from(samples.is_none()));
+        if let Some(samples) = samples {
+            assert_eq!(answer[..SUBFRAME], samples);
+        }
+    }
+}
+
+#[test]
+fn refused_calls_change_nothing() {
+    let mut state = [7; STATE];
+    let mut out = [5; FRAME];
+    let mut sheet = [0; SHEET];
+    sheet[at::GAINS + 3] = -1;
+    let answer = frame(&sheet, &state, &mut out);
+    assert_eq!((answer.refusal, answer.place), (4, 3));
+    assert_eq!(answer.state, state);
+    assert_eq!(answer.flags, [0; SUBFRAMES]);
+    assert_eq!(answer.rows, [[0; ROW]; SUBFRAMES]);
+    assert_eq!(out, [5; FRAME]);
+    assert_eq!(frame(&sheet[1..], &state, &mut out[1..]).refusal, 1);
+    assert_eq!(frame(&sheet, &state, &mut out[1..]).refusal, 5);
+    sheet[at::GAINS + 3] = 0;
+    state[at::SHARPENING] = 13018;
+    assert_eq!(frame(&sheet, &state, &mut out).refusal, 16);
+    assert_eq!(out, [5; FRAME]);
+}
+
+#[test]
+fn records_come_back() {
+    let state: [i16; STATE] = std::array::from_fn(|field| 66 * field as i16);
+    let mut bytes = vec![9; 3 + record::RECORD];
+    assert_eq!(record::write(&state, &mut bytes[3..]), 0);
+    let read = record::read(&bytes);
+    assert_eq!((read.refusal, read.state), (0, state));
+    assert_eq!(read.note, [9; 3]);
+    assert_eq!(record::read(&bytes[..record::RECORD]).refusal, 12);
+}

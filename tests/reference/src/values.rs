@@ -1,0 +1,109 @@
+//! Document 01's "Values to hold" and its listing of the bench program, against the reference.
+
+use crate::{
+    LSFS, ROW, SHEET, SUBFRAME, bench,
+    mr74::stages::{self, Lag},
+    record,
+    report::Report,
+};
+use std::fmt::Debug;
+
+fn same<T: PartialEq + Debug>(report: &mut Report, what: &str, got: T, wanted: T) {
+    let text = if got == wanted {
+        format!("{what} -> {got:?}")
+    } else {
+        format!("{what} -> {got:?}, document 01 has {wanted:?}")
+    };
+    report.line(got == wanted, &text);
+}
+
+fn lag(report: &mut Report, what: &str, got: Lag, wanted: Lag) {
+    same(
+        report,
+        &format!("lag (samples, thirds) {what}"),
+        got,
+        wanted,
+    );
+}
+
+pub fn run() -> bool {
+    let mut report = Report::default();
+    hold(&mut report);
+    listing(&mut report);
+    report.end()
+}
+
+fn hold(report: &mut Report) {
+    for (lsf, lsp) in [
+        (0, 32767),
+        (128, 32748),
+        (8191, 6),
+        (16383, -32768),
+        (16384, -32768),
+    ] {
+        same(report, &format!("LSF {lsf}"), stages::lsp(lsf), lsp);
+    }
+
+    for (index, wanted) in [
+        (0, (19, 1)),
+        (196, (85, -1)),
+        (197, (85, 0)),
+        (255, (143, 0)),
+    ] {
+        let what = format!("of index {index}");
+        lag(report, &what, stages::from_absolute(index), wanted);
+    }
+    for (previous, index, wanted) in [(143, 31, (144, -1)), (19, 0, (19, 1))] {
+        let got = stages::from_relative(index, previous).expect("the index is inside 0..=31");
+        lag(
+            report,
+            &format!("after {previous}, of index {index}"),
+            got,
+            wanted,
+        );
+    }
+
+    for (value, wanted) in [(4096, 1), (-4096, 0), (-4097, -1), (2147483647, 0)] {
+        let got = stages::rounded_coefficient(value);
+        same(report, &format!("coefficient {value}"), got, wanted);
+    }
+
+    for (value, wanted) in [(1, 1073709056), (2, 759234560), (0, 1073741823)] {
+        let got = stages::inverse_sqrt(value);
+        same(report, &format!("inverse root {value}"), got, wanted);
+    }
+
+    for (sample, wanted) in [(-32768, 134217728), (-32767, 134209536)] {
+        for place in [0, 17, SUBFRAME - 1] {
+            let mut samples = [0; SUBFRAME];
+            samples[place] = sample;
+            let what = format!("energy of {sample} at {place} among zeros");
+            same(report, &what, stages::energy(&samples), wanted);
+        }
+    }
+
+    let mut row = [0; ROW];
+    (row[0], row[1]) = (4096, -4096);
+    for (second, wanted) in [(0, false), (1, true)] {
+        let mut excitation = [0; SUBFRAME];
+        (excitation[0], excitation[1]) = (32767, second);
+        let got = stages::preview(&row, &[0; LSFS], &excitation).overflowed;
+        let what = format!("synthesis, row 4096 -4096, excitation 32767 {second}: overflow");
+        same(report, &what, got, wanted);
+    }
+}
+
+fn listing(report: &mut Report) {
+    let mut input = vec![0; record::BODY];
+    input.extend([0x4D, 0x37, 0x01, 0x00, 0x8A, 0x01, 0xC5, 0x00]);
+    input.extend([0; 2 * SHEET]);
+    let mut refused = [0; 2 * SHEET];
+    refused[18..20].copy_from_slice(&16385i16.to_le_bytes());
+    input.extend(refused);
+    input.push(0);
+    let got = bench::lines(&input);
+    for (line, wanted) in got.lines().zip(["1 0000 0 -", "2 refused 2 9", "3 cut"]) {
+        same(report, "the bench program's listing", line, wanted);
+    }
+    same(report, "lines of the listing", got.lines().count(), 3);
+}
