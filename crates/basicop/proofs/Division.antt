@@ -7,12 +7,13 @@ use native.Mathlib.Nat.{pow-suc, pow-zero, div-eq-of-lt-le, mul-div-cancel-left,
 use native.Mathlib.Omega.{arith}
 use borrow.Author.Tests.{leb-true, leb-false, eqb-true, eqb-false, eq-eqb, ne-eqb}
 use lib.Dec.{leb, eqb}
-use lib.IntN.{ℤ, pos, negsuc, _+ℤ_, _-ℤ_, _*ℤ_}
+use lib.IntN.{ℤ, pos, negsuc, _*ℤ_}
 use lib.Signed.{_≤ℤ_, _<ℤ_, quotZ}
 use mir.Syntax.{w16}
 use Rattle.lists.specs.Lists.{iter}
 use Rattle.basicop.specs.Ops.{clamp, Turn, turn, div-s}
-use Rattle.basicop.proofs.Ints.{arithℤ, sub-ℤ-is}
+use Rattle.basicop.proofs.Ints.{arithℤ}
+use Rattle.basicop.proofs.Naturals.{minus}
 use Rattle.basicop.proofs.Clamp.{clamp-pos}
 
 -- after k turns: the quotient times d and what is left make n · 2 ^ k, and less than d is left
@@ -22,9 +23,6 @@ record Held (n d k : ℕ) (t : Turn) : Type 0 where
   pub is : t ≡ record { num = pos num; quo = pos quo }
   pub sum : quo * d + num ≡ n * 2 ^ k
   pub less : num < d
-
-minus : (a d : ℕ) → d ≤ a → pos a -ℤ pos d ≡ pos (a - d)
-minus a d h = omega (arithℤ, sub-ℤ-is (pos a) (pos d))
 
 held-turn : (n d k : ℕ) (t : Turn) → Held n d k t → Held n d (suc k) (turn (pos d) k t)
 held-turn n d k t h = rw (h .is) (go (leb d (2 * h .num)) refl)

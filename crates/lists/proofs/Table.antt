@@ -3,8 +3,9 @@
 use mathlib.Core.Path.{_≡_, _∙_, subst, sym, ap}
 use mathlib.Core.Bool.{Bool, true, false}
 use mathlib.Core.List.{List, [], _∷_}
+use mathlib.Core.Logic.{⊎-elim}
 use Prim.Native.Nat.{ℕ, zero, suc, _+_, _<_}
-use native.Mathlib.Nat.{add-zero, zero-add, add-suc, suc-add, le-of-suc-le-suc, not-suc-le-zero}
+use native.Mathlib.Nat.{add-zero, zero-add, add-suc, suc-add, le-of-suc-le-suc, not-suc-le-zero, eq-or-lt-of-le}
 use lib.Dec.{T, eqb, eqb→eq}
 use lib.IntN.{ℤ, pos, negsuc}
 use lib.ListN.{length}
@@ -43,3 +44,16 @@ eqZ→eq (pos a) (pos b) t = ap pos (eqb→eq a b t)
 eqZ→eq (pos a) (negsuc b) t = absurd t
 eqZ→eq (negsuc a) (pos b) t = absurd t
 eqZ→eq (negsuc a) (negsuc b) t = ap negsuc (eqb→eq a b t)
+
+-- ---- a rule of every number below n, by one test that antt computes
+abbrev pub all-below : (ℕ → Bool) → ℕ → Bool
+all-below f zero = true
+all-below f (suc n) = both (f n) (all-below f n)
+
+pub below-each : (f : ℕ → Bool) (n : ℕ) → T (all-below f n) → (k : ℕ) → k < n → T (f k)
+below-each f zero t k h = absurd (not-suc-le-zero h)
+below-each f (suc n) t k h =
+    ⊎-elim
+    (λ (e : k ≡ n). rw e (both-left (f n) (all-below f n) t))
+    (λ (l : k < n). below-each f n (both-right (f n) (all-below f n) t) k l)
+    (eq-or-lt-of-le (le-of-suc-le-suc h))

@@ -1,0 +1,2 @@
+-- Lags: the definition's numbers in ℕ, and the range of every lag.
+pub mod Lags
