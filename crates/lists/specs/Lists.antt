@@ -3,8 +3,12 @@ use Prim.Native.Nat.{ℕ, zero, suc}
 use mathlib.Core.Bool.{Bool, false}
 use mathlib.Core.List.{List, [], _∷_, _++_}
 use lib.Dec.{eqb}
-use lib.IntN.{ℤ, pos, negsuc}
+use lib.IntN.{ℤ, pos, negsuc, negℤ}
 use lib.ListN.{getD}
+
+-- a negative number, as a table prints it: -n
+abbrev pub minus : ℕ → ℤ
+minus n = negℤ (pos n)
 
 -- two integers are the same, as a test
 abbrev pub eqZ : ℤ → ℤ → Bool
