@@ -1,5 +1,5 @@
 -- Ints: ℤ by its two parts, so that `omega` reads it; the order and the ring. Range, Shift, Clamp, Wrap: what fits, for any width.
--- Naturals: the operators of numbers that are not negative. Counts: shifts by a signed count. Calls: what `search` is handed where operators are called. Norm, Division, Split: norm_l, div_s, L_Extract.
+-- Fits: what each operator gives fits its type. Naturals: the operators of numbers that are not negative. Counts: shifts by a signed count. Calls: what `search` is handed where operators are called. Norm, Division, Split: norm_l, div_s, L_Extract.
 pub mod Ints
 pub mod Tests
 pub mod Range
@@ -7,6 +7,7 @@ pub mod Shift
 pub mod Clamp
 pub mod Wrap
 pub mod Naturals
+pub mod Fits
 pub mod Counts
 pub mod Calls
 mod Corners
