@@ -54,3 +54,19 @@ at-pairwise f [] ys i h k = absurd (not-suc-le-zero h)
 at-pairwise f (x ∷ xs) [] i h k = absurd (not-suc-le-zero k)
 at-pairwise f (x ∷ xs) (y ∷ ys) zero h k = refl
 at-pairwise f (x ∷ xs) (y ∷ ys) (suc i) h k = at-pairwise f xs ys i (le-of-suc-le-suc h) (le-of-suc-le-suc k)
+
+-- ---- what holds of 0 and of each number that a list is made of holds of every entry, also past the end
+module _ (P : ℤ → Type 0) (none : P (pos 0)) where
+  pub each-append : (xs ys : List ℤ) → ((i : ℕ) → P (at xs i)) → ((i : ℕ) → P (at ys i)) → (i : ℕ) → P (at (xs ++ ys) i)
+  each-append [] ys p q i = q i
+  each-append (x ∷ xs) ys p q zero = p zero
+  each-append (x ∷ xs) ys p q (suc i) = each-append xs ys (λ j. p (suc j)) q i
+
+  pub each-tab : (f : ℕ → ℤ) (n : ℕ) → ((k : ℕ) → P (f k)) → (i : ℕ) → P (at (tab f n) i)
+  unfolding tab
+  each-tab f zero p i = none
+  each-tab f (suc n) p i = each-append (tab f n) (f n ∷ []) (each-tab f n p) last i
+    where
+      last : (i : ℕ) → P (at (f n ∷ []) i)
+      last zero = p n
+      last (suc i) = none

@@ -1,8 +1,9 @@
 -- Signed: a signed local, and the entries of an array of signed numbers. Entries: entries of lists that are made from others.
--- Fill, Fold, Count, Grow: loops that fill an array, fold one, go by a count, and feed on what they made. Table: a rule of a whole table, by one test.
+-- Fill, Ends, Fold, Count, Grow: loops that fill an array, fill one from both ends, fold one, go by a count, and feed on what they made. Table: a rule of a whole table, by one test.
 pub mod Signed
 pub mod Entries
 pub mod Fill
+pub mod Ends
 pub mod Fold
 pub mod Count
 pub mod Grow

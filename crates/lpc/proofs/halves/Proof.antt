@@ -1,0 +1,9 @@
+use Rattle.basicop.proofs.Calls.{needsℤ, callsℤ}
+use Rattle.lpc.proofs.halves.Statement.{statement}
+use Rattle.lpc.proofs.halves.Tie as tie
+
+returns : tie.Need-returns
+returns c = search callsℤ depth 20
+
+pub halves-spec : {M : Type 1} → statement M
+halves-spec = tie.close (tie.spec (λ c κs. search needsℤ) (λ c κs. search needsℤ) (λ c κs. search needsℤ) returns)
