@@ -7,6 +7,7 @@ use Rattle.lists.proofs.Signed.{back, got}
 use Rattle.lists.proofs.Entries.{at-map}
 use Rattle.lists.proofs.Fill.{Filled, fill-none, fill-more, fill-whole}
 use Rattle.spectral.specs.Lsp.{lspOf, lspsOf}
+use Rattle.spectral.proofs.Lsp.{frequencies-range}
 use Rattle.spectral.proofs.cosines_of.Statement.{statement}
 use Rattle.spectral.proofs.cosines_of.Tie as tie
 
@@ -22,8 +23,8 @@ loop-holds c = (search needs, fill-none (length-map (c .args .t1) lspOf ∙ sear
 frequency-to-cosine-requires : tie.Need-frequency-to-cosine-requires Inv-loop μ-loop
 frequency-to-cosine-requires c κs =
     let s = c .before .before .before in
-    let i = c .before .before .loop .i in
-    rw (back w16 (c .frequency-to-cosine-arg .given)) (s .pre .0 .from i (search needs), s .pre .0 .to i (search needs), s .pre .1)
+    let r = frequencies-range (s .args .t1) (s .pre .0) (c .before .before .loop .i) (search needs) in
+    rw (back w16 (c .frequency-to-cosine-arg .given)) (r .0, r .1, s .pre .1)
 
 loop-again : tie.Need-loop-again Inv-loop μ-loop
 loop-again c =
