@@ -1,0 +1,28 @@
+use Prim.Native.Nat.{_≤_, _-_}
+use lib.ListN.{length}
+use borrow.Author.Needs.{needs}
+use Rattle.replay.proofs.same.Statement.{statement}
+use Rattle.replay.proofs.same.Tie as tie
+
+abbrev Inv-loop : tie.InvT-loop
+Inv-loop b from xs i₀ i = i ≤ length xs
+
+abbrev μ-loop : tie.MeasureT-loop
+μ-loop b from xs i₀ i = length xs - i
+
+pub same-spec : {M : Type 1} → statement M
+same-spec =
+    tie.close
+    (tie.spec
+    Inv-loop
+    μ-loop
+    (λ c. search needs)
+    (λ c. search needs)
+    (λ c κs. search needs)
+    (λ c. search needs)
+    (λ c. search needs)
+    (λ c. search needs)
+    (λ c. search needs)
+    (λ c. search needs)
+    (λ c. search needs)
+    (λ c. search needs))

@@ -1,0 +1,220 @@
+// Runs the recorded answers of the reference, the files of data/, through the stages, and says for each file how many records there are
+// and how many differ. A record is a row of 16-bit words, low byte first: inputs, then answers.
+ghost use Prim.Native.Nat.{_+_, _*_, _≤_, _<_};
+ghost use lib.ListN.{length};
+use libc::STDOUT_FILENO;
+use pitch::Fraction;
+use pitch::PitchLag;
+
+fn wide(x: u8) -> u32
+    ensures { λ r. ⌜ r < 256 ⌝ }
+{
+    x as u32
+}
+
+// word k of a record, as it stands
+fn bits(b: &[u8], k: usize) -> u32
+    requires { ⌜ (k < 1000) × (2 * k + 1 < length (now b)) ⌝ }
+    ensures { λ r. ⌜ r < 65536 ⌝ }
+{
+    wide(b[2 * k]) + 256 * wide(b[2 * k + 1])
+}
+
+// word k of a record, read as signed
+fn word(b: &[u8], k: usize) -> i16
+    requires { ⌜ (k < 1000) × (2 * k + 1 < length (now b)) ⌝ }
+{
+    let n = bits(b, k);
+    if n < 32768 {
+        return n as i16;
+    }
+    -1 - ((65535 - n) as i16)
+}
+
+// words k and k + 1, the low one first, read as signed
+fn long(b: &[u8], k: usize) -> i32
+    requires { ⌜ (k < 999) × (2 * k + 3 < length (now b)) ⌝ }
+{
+    let n = bits(b, k) + 65536 * bits(b, k + 1);
+    if n < 2147483648 {
+        return n as i32;
+    }
+    -1 - ((4294967295 - n) as i32)
+}
+
+fn ten(b: &[u8], from: usize) -> [i16; 10]
+    requires { ⌜ (from < 900) × (2 * from + 20 ≤ length (now b)) ⌝ }
+{
+    let mut r = [0i16; 10];
+    for i in 0..10 {
+        r[i] = word(b, from + i);
+    }
+    r
+}
+
+// the words from a place on are these
+fn same(b: &[u8], from: usize, xs: &[i16]) -> bool
+    requires { ⌜ (from < 900) × ((length (now xs) ≤ 100) × (2 * from + 2 * length (now xs) ≤ length (now b))) ⌝ }
+{
+    let mut i = 0;
+    while i < xs.len() {
+        if word(b, from + i) != xs[i] {
+            return false;
+        }
+        i += 1;
+    }
+    true
+}
+
+fn lsp(b: &[u8]) -> bool {
+    if b.len() < 40 {
+        return false;
+    }
+    let lsf = ten(b, 0);
+    if spectral::first_outside(lsf) != 10 {
+        return false;
+    }
+    let r = spectral::lsf_to_lsp(lsf);
+    same(b, 10, &r)
+}
+
+// The lag of an index, after a previous lag where it is relative.
+fn lag_of(relative: bool, index: u8, previous: u16) -> PitchLag {
+    if relative {
+        let before = PitchLag {
+            samples: previous,
+            fraction: Fraction::Zero,
+        };
+        return PitchLag::from_relative(index, before);
+    }
+    PitchLag::from_absolute(index)
+}
+
+fn lag(b: &[u8]) -> bool {
+    if b.len() < 10 {
+        return false;
+    }
+    let index = bits(b, 1);
+    if 255 < index {
+        return false;
+    }
+    let l = lag_of(bits(b, 0) == 1, index as u8, bits(b, 2) as u16);
+    let samples = l.samples;
+    let fraction = l.fraction;
+    bits(b, 3) == samples as u32 && word(b, 4) == fraction.thirds()
+}
+
+fn coefficient(b: &[u8]) -> bool {
+    if b.len() < 6 {
+        return false;
+    }
+    word(b, 2) == lpc::rounded_coefficient(long(b, 0))
+}
+
+fn convert(b: &[u8]) -> bool {
+    if b.len() < 42 {
+        return false;
+    }
+    let r = lpc::convert(ten(b, 0));
+    same(b, 10, &r)
+}
+
+// the words from a place on are the row
+fn row(b: &[u8], from: usize, row: [i16; 11]) -> bool
+    requires { ⌜ (from < 900) × (2 * from + 22 ≤ length (now b)) ⌝ }
+{
+    same(b, from, &row)
+}
+
+fn interpolate(b: &[u8]) -> bool {
+    if b.len() < 128 {
+        return false;
+    }
+    let rows = lpc::interpolate(ten(b, 0), ten(b, 10));
+    let first = rows.a;
+    let second = rows.b;
+    let third = rows.c;
+    let fourth = rows.d;
+    row(b, 20, first) && row(b, 31, second) && row(b, 42, third) && row(b, 53, fourth)
+}
+
+// The stage of a file, by its number, on a record.
+fn agrees(stage: u32, b: &[u8]) -> bool {
+    match stage {
+        0 => lsp(b),
+        1 => coefficient(b),
+        2 => convert(b),
+        3 => interpolate(b),
+        4 => lag(b),
+        _ => false,
+    }
+}
+
+struct Counts {
+    records: u64,
+    different: u64,
+}
+
+// Reads a record into lent bytes and answers 0 where there is none, 1 where the stage agrees with it, 2 where it differs.
+fn turn(fd: i32, stage: u32, b: &mut [u8]) -> u32 {
+    let n = io::read_full(fd, b);
+    if n == 0 {
+        return 0;
+    }
+    if n < b.len() {
+        return 2;
+    }
+    if agrees(stage, b) { 1 } else { 2 }
+}
+
+fn record(fd: i32, stage: u32, size: usize) -> u32
+    requires { ⌜ size ≤ 512 ⌝ }
+{
+    let mut buffer = [0u8; 512];
+    turn(fd, stage, &mut buffer[0..size])
+}
+
+// All the records of a file, at most a million: nothing says that a file ends.
+fn run(fd: i32, stage: u32, size: usize) -> Counts
+    requires { ⌜ size ≤ 512 ⌝ }
+{
+    let mut records: u64 = 0;
+    let mut different: u64 = 0;
+    while records < 1000000 {
+        let seen = record(fd, stage, size);
+        if seen == 0 {
+            break;
+        }
+        records += 1;
+        if seen == 2 {
+            different += 1;
+        }
+    }
+    Counts { records, different }
+}
+
+fn file(name: &[u8], stage: u32, words: usize)
+    requires { ⌜ words ≤ 256 ⌝ }
+{
+    io::write_all(STDOUT_FILENO, name);
+    let fd = os::open_read(name);
+    if fd < 0 {
+        io::write_all(STDOUT_FILENO, b": missing\n");
+        return;
+    }
+    let counts = run(fd, stage, 2 * words);
+    libc::close(fd);
+    io::write_all(STDOUT_FILENO, b": ");
+    io::print_decimal(STDOUT_FILENO, counts.records);
+    io::write_all(STDOUT_FILENO, b" records, ");
+    io::print_decimal(STDOUT_FILENO, counts.different);
+    io::write_all(STDOUT_FILENO, b" different\n");
+}
+
+fn main() {
+    file(b"lsp.bin", 0, 20);
+    file(b"coefficient.bin", 1, 3);
+    file(b"convert.bin", 2, 21);
+    file(b"interpolate.bin", 3, 64);
+    file(b"lag.bin", 4, 5);
+}
