@@ -1,0 +1,40 @@
+-- Document 01's starred values ("Values to hold"), as one statement over one list, about the definitions.
+use mathlib.Core.Path.{_≡_}
+use mathlib.Core.List.{List, [], _∷_}
+use lib.IntN.{ℤ, pos}
+use Rattle.lists.specs.Lists.{minus}
+use Rattle.pitch.specs.Lag.{absolute, relative}
+use Rattle.spectral.specs.Lsp.{lspOf}
+use Rattle.lpc.specs.Rows.{coefficient}
+
+-- what the definition gives, and what the paper has
+pub record Value : Type 0 where
+  pub given : ℤ
+  pub paper : ℤ
+
+infix 5 _is_
+abbrev pub _is_ : ℤ → ℤ → Value
+g is p = record { given = g; paper = p }
+
+-- a lag is its samples and its thirds
+unfoldable pub starred : List Value
+starred =
+    (lspOf (pos 0) is pos 32767)
+    ∷ (lspOf (pos 128) is pos 32748)
+    ∷ (lspOf (pos 16383) is minus 32768)
+    ∷ (lspOf (pos 16384) is minus 32768)
+    ∷ (absolute (pos 0) .samples is pos 19)
+    ∷ (absolute (pos 0) .thirds is pos 1)
+    ∷ (absolute (pos 197) .samples is pos 85)
+    ∷ (absolute (pos 197) .thirds is pos 0)
+    ∷ (relative (pos 31) (pos 143) .samples is pos 144)
+    ∷ (relative (pos 31) (pos 143) .thirds is minus 1)
+    ∷ (coefficient (pos 4096) is pos 1)
+    ∷ (coefficient (minus 4096) is pos 0)
+    ∷ (coefficient (pos 2147483647) is pos 0)
+    ∷ []
+
+-- every value of a list is the paper's
+abbrev pub Hold : List Value → Type 0
+Hold [] = Unit
+Hold (v ∷ vs) = (v .given ≡ v .paper) × Hold vs

@@ -1,0 +1,88 @@
+// Runs document 01's values to hold through the code, the starred ones among them, and prints each with its input.
+use libc::STDOUT_FILENO;
+use pitch::Fraction;
+use pitch::PitchLag;
+
+fn print_signed(x: i32) {
+    if x < 0 {
+        io::write_all(STDOUT_FILENO, b"-");
+        io::print_decimal(STDOUT_FILENO, (0 - (x as i64)) as u64);
+        return;
+    }
+    io::print_decimal(STDOUT_FILENO, x as u64);
+}
+
+// name, input and answer in a line
+fn line(name: &[u8], input: i32, answer: i32) {
+    io::write_all(STDOUT_FILENO, name);
+    io::write_all(STDOUT_FILENO, b" ");
+    print_signed(input);
+    io::write_all(STDOUT_FILENO, b": ");
+    print_signed(answer);
+    io::write_all(STDOUT_FILENO, b"\n");
+}
+
+fn short(name: &[u8], input: i16, answer: i16) {
+    line(name, input as i32, answer as i32);
+}
+
+fn frequencies() {
+    let lsf = [0i16, 128, 8191, 16383, 16384, 0, 0, 0, 0, 0];
+    let lsp = spectral::lsf_to_lsp(lsf);
+    for i in 0..5 {
+        short(b"LSF", lsf[i], lsp[i]);
+    }
+}
+
+// a lag in whole samples, then its thirds
+fn lag(name: &[u8], index: u8, l: PitchLag) {
+    let samples = l.samples;
+    let fraction = l.fraction;
+    line(name, index as i32, samples as i32);
+    short(b"thirds", index as i16, fraction.thirds());
+}
+
+fn after(samples: u16) -> PitchLag {
+    PitchLag {
+        samples,
+        fraction: Fraction::Zero,
+    }
+}
+
+fn lags() {
+    lag(b"lag", 0, PitchLag::from_absolute(0));
+    lag(b"lag", 196, PitchLag::from_absolute(196));
+    lag(b"lag", 197, PitchLag::from_absolute(197));
+    lag(b"lag", 255, PitchLag::from_absolute(255));
+}
+
+fn relative_lags() {
+    lag(
+        b"lag after 143",
+        31,
+        PitchLag::from_relative(31, after(143)),
+    );
+    lag(b"lag after 19", 0, PitchLag::from_relative(0, after(19)));
+}
+
+fn coefficient(value: i32) {
+    line(
+        b"coefficient",
+        value,
+        lpc::rounded_coefficient(value) as i32,
+    );
+}
+
+fn coefficients() {
+    coefficient(4096);
+    coefficient(-4096);
+    coefficient(-4097);
+    coefficient(2147483647);
+}
+
+fn main() {
+    frequencies();
+    lags();
+    relative_lags();
+    coefficients();
+}
