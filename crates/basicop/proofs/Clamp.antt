@@ -5,15 +5,16 @@ use Prim.Native.Nat.{ℕ, zero, suc, min, _+_, _*_, _-_, _^_, _<_, _≤_}
 use native.Mathlib.Nat.{zero-mul}
 use native.Mathlib.Omega.{arith}
 use borrow.Author.Tests.{leb-true, leb-false, ltb-true, ltb-false}
-use lib.Dec.{leb, ltb}
+use lib.Dec.{leb, ltb, lit<}
 use lib.Pow.{pow-mono, pow-pos}
-use lib.IntN.{ℤ, pos, negsuc, negℤ, _*ℤ_}
-use lib.Signed.{_≤ℤ_, ltZ}
-use mir.Syntax.{Width}
+use lib.IntN.{ℤ, pos, negsuc, negℤ, _-ℤ_, _*ℤ_}
+use lib.Signed.{_≤ℤ_, _<ℤ_, ltZ}
+use mir.Syntax.{Width, w8, w16, w32, w64, w128}
 use mir.Val.{SFits, hbits, toZ, ofZ}
 use mir.Facts.{toZ-ofZ}
 use Rattle.basicop.specs.Ops.{clamp, least, most}
-use Rattle.basicop.proofs.Ints.{arithℤ}
+use Rattle.basicop.proofs.Ints.{arithℤ, sub-ℤ-is}
+use Rattle.basicop.proofs.Tests.{less-yes, less-no, yes-less, no-less}
 
 -- by its two tests
 pub clamp-low : (w : Width) (z : ℤ) → ltZ z (least w) ≡ true → clamp w z ≡ least w
@@ -67,6 +68,34 @@ clamp-mono w (negsuc a) (negsuc b) h = rw (clamp-neg w a, clamp-neg w b) (omega 
 pub clamp-clamp : (w v : Width) (z : ℤ) → hbits w ≤ hbits v → clamp w (clamp v z) ≡ clamp w z
 clamp-clamp w v (pos n) h = rw (clamp-pos v n) (clamp-pos w (min n (2 ^ hbits v - 1)) ∙ ap pos (omega (arith, pow-mono h)) ∙ sym (clamp-pos w n))
 clamp-clamp w v (negsuc n) h = rw (clamp-neg v n) (clamp-neg w (min n (2 ^ hbits v - 1)) ∙ ap negsuc (omega (arith, pow-mono h)) ∙ sym (clamp-neg w n))
+
+-- a width has room for 1
+more : (w : Width) → 1 < 2 ^ hbits w
+more w8 = lit< tt
+more w16 = lit< tt
+more w32 = lit< tt
+more w64 = lit< tt
+more w128 = lit< tt
+
+-- it keeps the sign of a difference, so a difference that is clamped may be tested for the two numbers
+pub clamp-above : (w : Width) (a b : ℤ) → ltZ (pos 0) (clamp w (a -ℤ b)) ≡ ltZ b a
+clamp-above w a b = go (ltZ b a) refl
+  where
+    one : clamp w (pos 1) ≡ pos 1
+    one = clamp-id w (pos 1) (record { sfits = omega (arith, more w) })
+
+    none : clamp w (pos 0) ≡ pos 0
+    none = clamp-id w (pos 0) (record { sfits = pow-pos (hbits w) })
+
+    go : (t : Bool) → ltZ b a ≡ t → ltZ (pos 0) (clamp w (a -ℤ b)) ≡ t
+    go true e =
+        let h : b <ℤ a = less-yes e in
+        let l : clamp w (pos 1) ≤ℤ clamp w (a -ℤ b) = clamp-mono w (pos 1) (a -ℤ b) (omega (arithℤ, sub-ℤ-is a b)) in
+        yes-less (pos 0) (clamp w (a -ℤ b)) (omega (arithℤ, rw one at l))
+    go false e =
+        let h : a ≤ℤ b = less-no e in
+        let l : clamp w (a -ℤ b) ≤ℤ clamp w (pos 0) = clamp-mono w (a -ℤ b) (pos 0) (omega (arithℤ, sub-ℤ-is a b)) in
+        no-less (pos 0) (clamp w (a -ℤ b)) (rw none at l)
 
 -- ---- far beyond the range: a product with 2 ^ m is clamped alike for every m that is at least the width less 1
 clamp-over : (w : Width) (n : ℕ) → 2 ^ hbits w ≤ n → clamp w (pos n) ≡ most w

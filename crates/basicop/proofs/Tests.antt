@@ -1,9 +1,9 @@
 -- A test of two signed numbers, as a branch leaves it, is a fact of their order. Assumes nothing.
-use mathlib.Core.Path.{_≡_, subst}
+use mathlib.Core.Path.{_≡_, refl, subst}
 use mathlib.Core.Bool.{true, false}
-use borrow.Author.Tests.{leb-false}
+use borrow.Author.Tests.{leb-false, lt-ltb, le-ltb}
 use Prim.Native.Nat.{ℕ, _<_}
-use lib.Dec.{T, lt→ltb}
+use lib.Dec.{T, lt→ltb, ltb→lt, leb→le}
 use lib.IntN.{ℤ, pos, negsuc}
 use lib.Signed.{_≤ℤ_, _<ℤ_, leZ, ltZ, ltZ-no}
 use mir.Syntax.{Width}
@@ -24,6 +24,19 @@ at-most-no (pos a) (pos b) e = record { lt = lt→ltb b a (leb-false a b e) }
 at-most-no (pos a) (negsuc b) e = record { lt = tt }
 at-most-no (negsuc a) (pos b) e = record { lt = subst T e tt }
 at-most-no (negsuc a) (negsuc b) e = record { lt = lt→ltb a b (leb-false b a e) }
+
+-- and back
+pub yes-less : (a b : ℤ) → a <ℤ b → ltZ a b ≡ true
+yes-less (pos a) (pos b) h = lt-ltb a b (ltb→lt a b (h .lt))
+yes-less (pos a) (negsuc b) h = absurd (h .lt)
+yes-less (negsuc a) (pos b) h = refl
+yes-less (negsuc a) (negsuc b) h = lt-ltb b a (ltb→lt b a (h .lt))
+
+pub no-less : (a b : ℤ) → b ≤ℤ a → ltZ a b ≡ false
+no-less (pos a) (pos b) h = le-ltb a b (leb→le b a (h .le))
+no-less (pos a) (negsuc b) h = refl
+no-less (negsuc a) (pos b) h = absurd (h .le)
+no-less (negsuc a) (negsuc b) h = le-ltb b a (leb→le a b (h .le))
 
 -- a test against 0, of the bits read back
 module _ (w : Width) (n : ℤ) (f : SFits w n) where

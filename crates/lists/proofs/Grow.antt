@@ -5,9 +5,9 @@ use mathlib.Core.List.{List}
 use native.Mathlib.Nat.{add-zero}
 use native.Mathlib.Omega.{arith}
 use lib.ListN.{length, set, take, length-set}
-use lib.Seq.{take-suc-set, take-all}
-use lib.IntN.{ℤ}
-use Rattle.lists.specs.Lists.{iter, grow}
+use lib.Seq.{take-suc-set, take-all, set-getD}
+use lib.IntN.{ℤ, pos}
+use Rattle.lists.specs.Lists.{at, iter, grow}
 use Rattle.lists.proofs.Count.{Iter, iter-none, iter-more, iter-done}
 
 pub record Grown (g : ℕ → List ℤ → ℤ) (base : List ℤ) (off len : ℕ) (buf : List ℤ) (n : ℕ) : Type 0 where
@@ -25,6 +25,10 @@ grown-more {g} {base} {off} {len} {buf} {n} {v} r e h =
       room = length-set buf (off + n) v ∙ r .room;
       made = iter-more (r .made) (rw k (take-suc-set buf (off + n) v lb ∙ rw e));
     }
+
+-- a place that is right as it stands needs no store
+pub grown-keep : {g : ℕ → List ℤ → ℤ} {base : List ℤ} {off len : ℕ} {buf : List ℤ} {n : ℕ} → Grown g base off len buf n → at buf (off + n) ≡ g n (take (off + n) buf) → off + n < len → Grown g base off len buf (n + 1)
+grown-keep {off = off} {buf = buf} {n = n} r e h = rw (set-getD buf (off + n) (pos 0)) at (grown-more r e h)
 
 -- the last place is written
 pub grown-done : {g : ℕ → List ℤ → ℤ} {base : List ℤ} {off len : ℕ} {buf : List ℤ} {n : ℕ} → Grown g base off len buf n → (m : ℕ) → n ≡ m → off + m ≡ len → buf ≡ iter (grow g) m base

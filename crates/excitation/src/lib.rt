@@ -1,0 +1,111 @@
+// The excitation of a subframe: sharpening, feedback and the past.
+ghost use mathlib.Core.Path.{_≡_};
+ghost use Prim.Native.Nat.{_<_, _≤_};
+ghost use lib.IntN.{pos};
+ghost use mathlib.Core.List.{_++_};
+ghost use lib.ListN.{take, drop};
+ghost use Rattle.basicop.specs.Ops.{add, mult};
+ghost use Rattle.excitation.specs.Excitation.{sharpened, sharpening, feedbackAt, feedback, taking, quartered};
+use basicop::Q1;
+use basicop::Q14;
+
+// A sample of the sharpened innovation, from the one a lag before it.
+fn sharper(code: i16, before: i16, sharpening: i16) -> i16
+    ensures { λ r. ⌜ r ≡ add code (mult before sharpening) ⌝ }
+{
+    basicop::add(code, basicop::mult(before, sharpening))
+}
+
+// The innovation with pitch sharpening, by the sharpening of the subframe before. A lag is at least 19.
+pub fn sharpen(innovation: [i16; 40], lag: usize, sharpening: Q14) -> [i16; 40]
+    requires { ⌜ (1 ≤ lag) × (lag ≤ 144) ⌝ }
+    ensures { λ r. ⌜ r ≡ sharpened innovation lag (sharpening .0) ⌝ }
+{
+    let doubled = basicop::doubled(sharpening);
+    let g = doubled.0;
+    let mut code = innovation;
+    let mut i = lag;
+    while i < 40 {
+        code[i] = sharper(code[i], code[i - lag], g);
+        i += 1;
+    }
+    code
+}
+
+// The sharpening that the next subframe takes.
+pub fn next_sharpening(pitch: Q14) -> Q14
+    ensures { λ r. ⌜ r .0 ≡ sharpening (pitch .0) ⌝ }
+{
+    if 13017 < pitch.0 {
+        return Q14(13017);
+    }
+    pitch
+}
+
+// A sample of the feedback.
+fn fed_back(adaptive: i16, innovation: i16, pitch: Q14, code: Q1) -> i16
+    ensures { λ r. ⌜ r ≡ feedbackAt (pitch .0) (code .0) adaptive innovation ⌝ }
+{
+    let sum = basicop::l_mac(basicop::l_mult(adaptive, pitch.0), innovation, code.0);
+    basicop::round(basicop::l_shl(sum, 1))
+}
+
+// The excitation that is fed back, before any quartering.
+pub fn feedback(adaptive: [i16; 40], innovation: [i16; 40], pitch: Q14, code: Q1) -> [i16; 40]
+    ensures { λ r. ⌜ r ≡ feedback adaptive (pitch .0) innovation (code .0) ⌝ }
+{
+    let mut r = [0i16; 40];
+    for i in 0..40 {
+        r[i] = fed_back(adaptive[i], innovation[i], pitch, code);
+    }
+    r
+}
+
+// The past without its oldest forty, at the front.
+fn kept(past: [i16; 154]) -> [i16; 154]
+    ensures { λ r. ⌜ take 114 r ≡ drop 40 past ⌝ }
+{
+    let mut r = past;
+    for i in 0..114 {
+        r[i] = past[i + 40];
+    }
+    r
+}
+
+// Forty after the first 114.
+fn joined(past: [i16; 154], feedback: [i16; 40]) -> [i16; 154]
+    ensures { λ r. ⌜ r ≡ take 114 past ++ feedback ⌝ }
+{
+    let mut r = past;
+    for i in 0..40 {
+        r[i + 114] = feedback[i];
+    }
+    r
+}
+
+// The past takes in a subframe, its oldest forty leaving.
+pub fn take_in(past: [i16; 154], feedback: [i16; 40]) -> [i16; 154]
+    ensures { λ r. ⌜ r ≡ taking past feedback ⌝ }
+{
+    joined(kept(past), feedback)
+}
+
+pub fn quarter_past(past: [i16; 154]) -> [i16; 154]
+    ensures { λ r. ⌜ r ≡ quartered past ⌝ }
+{
+    let mut r = past;
+    for i in 0..154 {
+        r[i] = basicop::shr(past[i], 2);
+    }
+    r
+}
+
+pub fn quarter(feedback: [i16; 40]) -> [i16; 40]
+    ensures { λ r. ⌜ r ≡ quartered feedback ⌝ }
+{
+    let mut r = feedback;
+    for i in 0..40 {
+        r[i] = basicop::shr(feedback[i], 2);
+    }
+    r
+}
