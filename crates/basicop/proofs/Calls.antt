@@ -9,7 +9,7 @@ use lib.Signed.{leZ, ltZ}
 use mir.Syntax.{Width}
 use mir.Val.{SFits, toZ, ofZ}
 use mir.Facts.{toZ-ofZ}
-use Rattle.basicop.specs.Ops.{clamp, asr, wrap, add, sub, mult, shl, L-add, L-sub, L-mult, L-shl, L-shr-r, L-deposit-h, norm-l}
+use Rattle.basicop.specs.Ops.{clamp, asr, wrap, add, sub, mult, shl, L-add, L-sub, L-mult, L-mac, L-shl, L-shr-r, L-deposit-h, norm-l}
 use Rattle.basicop.proofs.Range.{sfits-wider, sfits-add, sfits-sub, sfits-mul, sfits-times, sfits-scale, toZ-nat, cast-asks, cast-gives}
 use Rattle.basicop.proofs.Shift.{asr-fits, sfits-shrZ, sfits-shr-same}
 
@@ -123,6 +123,9 @@ wrap-by w = by-one (wrap w)
 
 pub wrap-same : (w : Width) → Same-one (wrap w)
 wrap-same w = same-one (wrap w)
+
+pub L-mac-eq : {s s′ a a′ b b′ : ℤ} → s ≡ s′ → a ≡ a′ → b ≡ b′ → L-mac s a b ≡ L-mac s′ a′ b′
+L-mac-eq e p q = rw (e, p, q)
 
 pub read : (w : Width) (r v : ℤ) → SFits w r → r ≡ v → toZ w (ofZ w r) ≡ v
 read w r v h e = toZ-ofZ h ∙ e

@@ -138,6 +138,42 @@ fn interpolate(b: &[u8]) -> bool {
     row(b, 20, first) && row(b, 31, second) && row(b, 42, third) && row(b, 53, fourth)
 }
 
+fn past_of(b: &[u8]) -> [i16; 154]
+    requires { ⌜ 308 ≤ length (now b) ⌝ }
+{
+    let mut r = [0i16; 154];
+    for i in 0..154 {
+        r[i] = word(b, i);
+    }
+    r
+}
+
+fn fraction_of(thirds: u32) -> Fraction {
+    if thirds == 0 {
+        return Fraction::Zero;
+    }
+    if thirds == 1 {
+        return Fraction::PlusThird;
+    }
+    Fraction::MinusThird
+}
+
+fn predict(b: &[u8]) -> bool {
+    if b.len() < 392 {
+        return false;
+    }
+    let samples = bits(b, 154);
+    if samples < 19 || 144 < samples {
+        return false;
+    }
+    let lag = PitchLag {
+        samples: samples as u16,
+        fraction: fraction_of(bits(b, 155)),
+    };
+    let r = adaptive::predict(past_of(b), lag);
+    same(b, 156, &r)
+}
+
 // The stage of a file, by its number, on a record.
 fn agrees(stage: u32, b: &[u8]) -> bool {
     match stage {
@@ -146,6 +182,7 @@ fn agrees(stage: u32, b: &[u8]) -> bool {
         2 => convert(b),
         3 => interpolate(b),
         4 => lag(b),
+        5 => predict(b),
         _ => false,
     }
 }
@@ -217,4 +254,5 @@ fn main() {
     file(b"convert.bin", 2, 21);
     file(b"interpolate.bin", 3, 64);
     file(b"lag.bin", 4, 5);
+    file(b"predict.bin", 5, 196);
 }
