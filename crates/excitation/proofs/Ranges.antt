@@ -13,7 +13,7 @@ use mir.Val.{SFits}
 use Rattle.lists.specs.Lists.{at, iter, grow, pairwise}
 use Rattle.lists.proofs.Entries.{length-pairwise, at-pairwise, at-map}
 use Rattle.lists.proofs.Grow.{length-grow, grow-each}
-use Rattle.basicop.specs.Ops.{asr, add, sub, mult, shl, shr}
+use Rattle.basicop.specs.Ops.{asr, add, sub, shr}
 use Rattle.basicop.proofs.Ints.{arithℤ}
 use Rattle.basicop.proofs.Clamp.{clamp-above}
 use Rattle.basicop.proofs.Fits.{add-fits, round-fits}
@@ -25,20 +25,20 @@ use Rattle.excitation.specs.Excitation.{sharpenedAt, sharpened, sharpeni
 -- ---- sharpening
 pub sharpened-length : (code : List ℤ) (t : ℕ) (sharp : ℤ) → length (sharpened code t sharp) ≡ 40
 unfolding sharpened
-sharpened-length code t sharp = length-grow (sharpenedAt code t (shl sharp (pos 1))) [] 40
+sharpened-length code t sharp = length-grow _ [] 40
 
 sharpenedAt-fits : (code : List ℤ) (t : ℕ) (g : ℤ) → ((i : ℕ) → SFits w16 (at code i)) → (i : ℕ) (y : List ℤ) → SFits w16 (sharpenedAt code t g i y)
-sharpenedAt-fits code t g f i y = go (ltb i t)
+sharpenedAt-fits code t g f i y = go (ltb i t) _
   where
-    go : (b : Bool) → SFits w16 (cond b (at code i) (add (at code i) (mult (at y (i - t)) g)))
-    go true = f i
-    go false = add-fits _ _
+    go : (b : Bool) (z : ℤ) → SFits w16 (cond b (at code i) (add (at code i) z))
+    go true z = f i
+    go false z = add-fits _ _
 
 pub sharpened-fits : (code : List ℤ) (t : ℕ) (sharp : ℤ) → ((i : ℕ) → SFits w16 (at code i)) → (i : ℕ) → i < 40 → SFits w16 (at (sharpened code t sharp) i)
 unfolding sharpened
 sharpened-fits code t sharp f i h =
-    let z : 0 + i ≡ i = omega arith in
-    rw z at (grow-each (sharpenedAt code t (shl sharp (pos 1))) [] (SFits w16) (sharpenedAt-fits code t (shl sharp (pos 1)) f) 40 i h)
+    let z : i ≡ 0 + i = omega arith in
+    rw z (grow-each _ [] (SFits w16) (sharpenedAt-fits code t _ f) 40 i h)
 
 -- the sharpening carried on lies in 0..=13017, of every gain that is not negative
 pub sharpening-range : (gain : ℤ) → pos 0 ≤ℤ gain → (pos 0 ≤ℤ sharpening gain) × (sharpening gain ≤ℤ pos 13017)
