@@ -2,6 +2,7 @@
 // and how many differ. A record is a row of 16-bit words, low byte first: inputs, then answers.
 ghost use Prim.Native.Nat.{_+_, _*_, _≤_, _<_};
 ghost use lib.ListN.{length};
+use energy::GainControl;
 use libc::STDOUT_FILENO;
 use pitch::Fraction;
 use pitch::PitchLag;
@@ -174,6 +175,56 @@ fn predict(b: &[u8]) -> bool {
     same(b, 156, &r)
 }
 
+fn forty(b: &[u8], from: usize) -> [i16; 40]
+    requires { ⌜ (from < 900) × (2 * from + 80 ≤ length (now b)) ⌝ }
+{
+    let mut r = [0i16; 40];
+    for i in 0..40 {
+        r[i] = word(b, from + i);
+    }
+    r
+}
+
+// the words from a place on are the subframe
+fn subframe(b: &[u8], from: usize, samples: [i16; 40]) -> bool
+    requires { ⌜ (from < 900) × (2 * from + 80 ≤ length (now b)) ⌝ }
+{
+    same(b, from, &samples)
+}
+
+fn energy_of(b: &[u8]) -> bool {
+    if b.len() < 84 {
+        return false;
+    }
+    long(b, 40) == energy::energy(forty(b, 0))
+}
+
+fn inverse_sqrt(b: &[u8]) -> bool {
+    if b.len() < 8 {
+        return false;
+    }
+    long(b, 2) == energy::inverse_sqrt(long(b, 0))
+}
+
+fn match_energy(b: &[u8]) -> bool {
+    if b.len() < 240 {
+        return false;
+    }
+    subframe(b, 80, energy::match_energy(forty(b, 0), forty(b, 40)))
+}
+
+fn gain_control(b: &[u8]) -> bool {
+    if b.len() < 244 {
+        return false;
+    }
+    let control = GainControl {
+        previous_gain: word(b, 0),
+    };
+    let r = energy::process(control, forty(b, 1), forty(b, 41));
+    let samples = r.samples;
+    subframe(b, 81, samples) && word(b, 121) == r.control.previous_gain
+}
+
 // The stage of a file, by its number, on a record.
 fn agrees(stage: u32, b: &[u8]) -> bool {
     match stage {
@@ -183,6 +234,10 @@ fn agrees(stage: u32, b: &[u8]) -> bool {
         3 => interpolate(b),
         4 => lag(b),
         5 => predict(b),
+        6 => energy_of(b),
+        7 => inverse_sqrt(b),
+        8 => match_energy(b),
+        9 => gain_control(b),
         _ => false,
     }
 }
@@ -255,4 +310,8 @@ fn main() {
     file(b"interpolate.bin", 3, 64);
     file(b"lag.bin", 4, 5);
     file(b"predict.bin", 5, 196);
+    file(b"energy.bin", 6, 42);
+    file(b"inverse_sqrt.bin", 7, 4);
+    file(b"match_energy.bin", 8, 120);
+    file(b"gain_control.bin", 9, 122);
 }

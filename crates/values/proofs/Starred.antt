@@ -1,10 +1,12 @@
 -- The starred values hold, each computed from its definition. Assumes nothing.
 use mathlib.Core.Path.{_≡_, refl}
-use Rattle.basicop.specs.Ops.{clamp, asr, wrap, add, sub, mult, L-mult, L-shr-r}
+use Rattle.basicop.specs.Ops.{clamp, asr, wrap, add, sub, mult, L-add, L-sub, L-mult, L-shl, L-shr-r, L-deposit-h, doublings, norm-l}
 use Rattle.pitch.specs.Lag.{absolute, relative, lag-min}
 use Rattle.spectral.specs.Lsp.{cosine, between, lspOf}
+use Rattle.energy.specs.Energy.{squares, energy}
+use Rattle.energy.specs.Root.{inverseTable, rootScaled, rootIndex, rootFraction, rootBetween, inverseRoot}
 use Rattle.values.specs.Starred.{starred, Hold}
 
 pub starred-hold : Hold starred
-unfolding starred absolute relative lag-min lspOf between cosine add sub mult L-mult L-shr-r wrap asr clamp
-starred-hold = (refl, (refl, (refl, (refl, (refl, (refl, (refl, (refl, (refl, (refl, (refl, (refl, (refl, tt)))))))))))))
+unfolding starred absolute relative lag-min lspOf between cosine add sub mult L-add L-mult L-sub L-shl L-shr-r L-deposit-h wrap asr clamp norm-l doublings energy squares inverseRoot rootScaled rootIndex rootFraction rootBetween inverseTable
+starred-hold = (refl, (refl, (refl, (refl, (refl, (refl, (refl, (refl, (refl, (refl, (refl, (refl, (refl, (refl, (refl, (refl, tt))))))))))))))))

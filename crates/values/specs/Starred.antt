@@ -2,10 +2,13 @@
 use mathlib.Core.Path.{_≡_}
 use mathlib.Core.List.{List, [], _∷_}
 use lib.IntN.{ℤ, pos}
+use lib.ListN.{replicate}
 use Rattle.lists.specs.Lists.{minus}
 use Rattle.pitch.specs.Lag.{absolute, relative}
 use Rattle.spectral.specs.Lsp.{lspOf}
 use Rattle.lpc.specs.Rows.{coefficient}
+use Rattle.energy.specs.Energy.{energy}
+use Rattle.energy.specs.Root.{inverseRoot}
 
 -- what the definition gives, and what the paper has
 pub record Value : Type 0 where
@@ -16,7 +19,7 @@ infix 5 _is_
 abbrev pub _is_ : ℤ → ℤ → Value
 g is p = record { given = g; paper = p }
 
--- a lag is its samples and its thirds
+-- a lag is its samples and its thirds; an energy is that of one sample among zeros
 unfoldable pub starred : List Value
 starred =
     (lspOf (pos 0) is pos 32767)
@@ -32,6 +35,9 @@ starred =
     ∷ (coefficient (pos 4096) is pos 1)
     ∷ (coefficient (minus 4096) is pos 0)
     ∷ (coefficient (pos 2147483647) is pos 0)
+    ∷ (inverseRoot (pos 1) is pos 1073709056)
+    ∷ (inverseRoot (pos 2) is pos 759234560)
+    ∷ (energy (minus 32768 ∷ replicate 39 (pos 0)) is pos 134217728)
     ∷ []
 
 -- every value of a list is the paper's

@@ -80,9 +80,28 @@ fn coefficients() {
     coefficient(2147483647);
 }
 
+fn inverse_root(value: i32) {
+    line(b"inverse root", value, energy::inverse_sqrt(value));
+}
+
+// of one sample among zeros
+fn energy_of(sample: i16) {
+    let mut samples = [0i16; 40];
+    samples[0] = sample;
+    line(b"energy", sample as i32, energy::energy(samples));
+}
+
+fn energies() {
+    inverse_root(1);
+    inverse_root(2);
+    energy_of(-32768);
+    energy_of(-32767);
+}
+
 fn main() {
     frequencies();
     lags();
     relative_lags();
     coefficients();
+    energies();
 }

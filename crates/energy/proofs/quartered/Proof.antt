@@ -1,0 +1,54 @@
+use Prim.Native.Nat.{_≤_, _-_}
+use borrow.Author.Needs.{needs}
+use mathlib.Core.Path.{ap, _∙_}
+use mathlib.Core.List.{map}
+use lib.IntN.{ℤ, pos}
+use lib.ListN.{length-map}
+use mir.Syntax.{w16}
+use Rattle.lists.proofs.Signed.{back, got}
+use Rattle.lists.proofs.Entries.{at-map}
+use Rattle.lists.proofs.Fill.{Filled, fill-none, fill-more, fill-whole}
+use Rattle.basicop.specs.Ops.{shr}
+use Rattle.energy.proofs.quartered.Statement.{statement}
+use Rattle.energy.proofs.quartered.Tie as tie
+
+abbrev quarter : ℤ → ℤ
+quarter x = shr x (pos 2)
+
+abbrev Inv-loop : tie.InvT-loop
+Inv-loop samples quarters₀ i₀ quarters i = (i ≤ 40) × Filled 40 40 (map quarter samples) quarters i
+
+abbrev μ-loop : tie.MeasureT-loop
+μ-loop samples quarters₀ i₀ quarters i = 40 - i
+
+loop-holds : tie.Need-loop-holds Inv-loop μ-loop
+loop-holds c = (search needs, fill-none (length-map (c .args .t1) quarter ∙ search needs) (search needs))
+
+loop-again : tie.Need-loop-again Inv-loop μ-loop
+loop-again c =
+    let l = c .before .before .before in (
+      search needs,
+      fill-more (l .loop .inv .1)
+          (got w16 (c .shr .ok) (c .shr .ensures ∙ ap quarter (back w16 (c .before .shr-arg .given)) ∙ at-map quarter (l .before .args .t1) (l .loop .i) (search needs)))
+          (search needs) (search needs),
+    )
+
+returns : tie.Need-returns Inv-loop μ-loop
+returns c = fill-whole (c .before .loop .inv .1) (search needs)
+
+pub quartered-spec : {M : Type 1} → statement M
+quartered-spec =
+    tie.close
+    (tie.spec
+    Inv-loop
+    μ-loop
+    loop-holds
+    (λ c. search needs)
+    (λ c. search needs)
+    (λ c κs. search needs)
+    (λ c. search needs)
+    (λ c. search needs)
+    (λ c. search needs)
+    (λ c. search needs)
+    loop-again
+    returns)

@@ -1,0 +1,3 @@
+pub mod Energy
+pub mod Root
+pub mod Gain
