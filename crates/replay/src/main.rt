@@ -120,6 +120,13 @@ fn convert(b: &[u8]) -> bool {
     same(b, 10, &r)
 }
 
+// the words from a place on are these ten
+fn ten_same(b: &[u8], from: usize, xs: [i16; 10]) -> bool
+    requires { ⌜ (from < 900) × (2 * from + 20 ≤ length (now b)) ⌝ }
+{
+    same(b, from, &xs)
+}
+
 // the words from a place on are the row
 fn row(b: &[u8], from: usize, row: [i16; 11]) -> bool
     requires { ⌜ (from < 900) × (2 * from + 22 ≤ length (now b)) ⌝ }
@@ -225,6 +232,44 @@ fn gain_control(b: &[u8]) -> bool {
     subframe(b, 81, samples) && word(b, 121) == r.control.previous_gain
 }
 
+fn row_of(b: &[u8], from: usize) -> [i16; 11]
+    requires { ⌜ (from < 900) × (2 * from + 22 ≤ length (now b)) ⌝ }
+{
+    let mut r = [0i16; 11];
+    for i in 0..11 {
+        r[i] = word(b, from + i);
+    }
+    r
+}
+
+// The first pass; where it overflowed its samples are not compared.
+fn first_pass(b: &[u8]) -> bool {
+    if b.len() < 224 {
+        return false;
+    }
+    let first = synthesis::preview(row_of(b, 0), forty(b, 21), ten(b, 11));
+    let samples = first.samples;
+    if first.overflowed {
+        return bits(b, 101) == 1;
+    }
+    bits(b, 101) == 0 && subframe(b, 61, samples)
+}
+
+// The clamped pass, and the history after it.
+fn clamped_pass(b: &[u8]) -> bool {
+    if b.len() < 224 {
+        return false;
+    }
+    let r = synthesis::filter(row_of(b, 0), forty(b, 21), ten(b, 11));
+    let samples = r.samples;
+    let history = r.history;
+    subframe(b, 61, samples) && ten_same(b, 102, history)
+}
+
+fn both_passes(b: &[u8]) -> bool {
+    first_pass(b) && clamped_pass(b)
+}
+
 // The stage of a file, by its number, on a record.
 fn agrees(stage: u32, b: &[u8]) -> bool {
     match stage {
@@ -238,6 +283,7 @@ fn agrees(stage: u32, b: &[u8]) -> bool {
         7 => inverse_sqrt(b),
         8 => match_energy(b),
         9 => gain_control(b),
+        10 => both_passes(b),
         _ => false,
     }
 }
@@ -314,4 +360,5 @@ fn main() {
     file(b"inverse_sqrt.bin", 7, 4);
     file(b"match_energy.bin", 8, 120);
     file(b"gain_control.bin", 9, 122);
+    file(b"synthesis.bin", 10, 112);
 }

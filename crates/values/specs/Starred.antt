@@ -9,6 +9,7 @@ use Rattle.spectral.specs.Lsp.{lspOf}
 use Rattle.lpc.specs.Rows.{coefficient}
 use Rattle.energy.specs.Energy.{energy}
 use Rattle.energy.specs.Root.{inverseRoot}
+use Rattle.synthesis.specs.Synthesis.{overflowedAt}
 
 -- what the definition gives, and what the paper has
 pub record Value : Type 0 where
@@ -18,6 +19,10 @@ pub record Value : Type 0 where
 infix 5 _is_
 abbrev pub _is_ : ℤ → ℤ → Value
 g is p = record { given = g; paper = p }
+
+-- synthesis with zero history and the row 4096, -4096, zeros: the first sample at which a step clamps, 40 where none does
+abbrev pub firstClamp : List ℤ → ℤ
+firstClamp xs = pos (overflowedAt 10 (pos 4096 ∷ minus 4096 ∷ replicate 9 (pos 0)) xs (replicate 10 (pos 0)))
 
 -- a lag is its samples and its thirds; an energy is that of one sample among zeros
 unfoldable pub starred : List Value
@@ -38,6 +43,8 @@ starred =
     ∷ (inverseRoot (pos 1) is pos 1073709056)
     ∷ (inverseRoot (pos 2) is pos 759234560)
     ∷ (energy (minus 32768 ∷ replicate 39 (pos 0)) is pos 134217728)
+    ∷ (firstClamp (pos 32767 ∷ replicate 39 (pos 0)) is pos 40)
+    ∷ (firstClamp (pos 32767 ∷ pos 1 ∷ replicate 38 (pos 0)) is pos 1)
     ∷ []
 
 -- every value of a list is the paper's

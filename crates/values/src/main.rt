@@ -98,10 +98,27 @@ fn energies() {
     energy_of(-32767);
 }
 
+// the first sample at which a step of the synthesis clamps, 40 where none does: zero history, row 4096, -4096, excitation 32767, then `second`
+fn first_clamp(second: i16) {
+    let mut row = [0i16; 11];
+    row[0] = 4096;
+    row[1] = -4096;
+    let mut excitation = [0i16; 40];
+    excitation[0] = 32767;
+    excitation[1] = second;
+    let r = synthesis::preview(row, excitation, [0i16; 10]);
+    let place = r.place;
+    if place <= 40 {
+        line(b"synthesis 32767,", second as i32, place as i32);
+    }
+}
+
 fn main() {
     frequencies();
     lags();
     relative_lags();
     coefficients();
     energies();
+    first_clamp(0);
+    first_clamp(1);
 }

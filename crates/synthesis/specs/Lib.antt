@@ -1,0 +1,5 @@
+pub mod Fed
+pub mod Synthesis
+pub mod Whole
+pub mod Agree
+pub mod Pass
