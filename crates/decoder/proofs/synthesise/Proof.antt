@@ -1,0 +1,45 @@
+use mathlib.Core.Path.{_≡_, ap, _∙_}
+use mathlib.Core.List.{List}
+use Prim.Native.Nat.{ℕ}
+use borrow.Author.Needs.{needs}
+use lib.IntN.{ℤ}
+use Rattle.synthesis.specs.declared.Output.{Output}
+use Rattle.synthesis.specs.declared.Filtered.{Filtered}
+use Rattle.decoder.proofs.Subframes.{synthesised-again, synthesised-kept}
+use Rattle.decoder.proofs.synthesise.Statement.{statement}
+use Rattle.decoder.proofs.synthesise.Tie as tie
+
+returns : tie.Need-returns
+returns c =
+    let q = c .before .before .before .before in
+    let f = q .before .before in
+    let s = f .before in
+    synthesised-again (s .args .row) (s .args .feedback) (s .args .excitation) (s .args .history) (s .args .past) (search needs)
+    (ap (λ (o : Output). o .place) (f .preview .ensures))
+    (q .before .if1 .taken)
+    (q .quarter .ensures)
+    (ap (λ (o : Filtered). o .samples) (c .before .before .before .filter .ensures))
+    (c .take-in .ensures ∙ rw (c .before .quarter-past .ensures))
+
+returns-2 : tie.Need-returns-2
+returns-2 c =
+    let f = c .before .before .before in
+    let s = f .before in
+    synthesised-kept (s .args .row) (s .args .feedback) (s .args .excitation) (s .args .history) (s .args .past) (search needs)
+    (ap (λ (o : Output). o .place) (f .preview .ensures))
+    (c .before .before .if1 .left)
+    (ap (λ (o : Output). o .samples) (f .preview .ensures))
+    (c .take-in2 .ensures)
+
+pub synthesise-spec : {M : Type 1} → statement M
+synthesise-spec =
+    tie.close
+    (tie.spec
+    (λ c κs. search needs)
+    (λ c κs. search needs)
+    (λ c κs. search needs)
+    (λ c κs. search needs)
+    (λ c κs. search needs)
+    returns
+    (λ c κs. search needs)
+    returns-2)

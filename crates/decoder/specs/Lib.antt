@@ -1,0 +1,3 @@
+pub mod Enhance
+pub mod Subframe
+pub mod Core

@@ -1,0 +1,160 @@
+// The core of a frame: everything up to the synthesis samples.
+ghost use mathlib.Core.Path.{_≡_};
+ghost use mathlib.Core.Bool.{cond};
+ghost use Prim.Native.Nat.{_≤_};
+ghost use lib.IntN.{pos};
+ghost use Rattle.decoder.specs.Enhance.{enhancedAt, enhanced, firstExcitation};
+ghost use Rattle.decoder.specs.Subframe.{Fed, synthesised, told};
+ghost use Rattle.decoder.specs.Core.{excited, turn, toldTurn};
+use basicop::Q1;
+use basicop::Q14;
+use basicop::Q15;
+use pitch::PitchLag;
+
+// The core's part of the state: fields 0 to 174 of the record, in its order.
+pub struct Core {
+    // previous LSP (Q15)
+    pub lsp: [i16; 10],
+    // past excitation, oldest first
+    pub past: [i16; 154],
+    pub sharpening: Q14,
+    // synthesis history
+    pub history: [i16; 10],
+}
+
+// What the sheet gives for a subframe.
+pub struct Parameters {
+    pub lag: PitchLag,
+    pub pitch: Q14,
+    pub code: Q1,
+    pub innovation: [i16; 40],
+}
+
+// A sample of the enhanced excitation.
+fn enhanced_sample(feedback: i16, adaptive: i16, doubled: Q15, pitch: Q14) -> i16
+    ensures { λ r. ⌜ r ≡ enhancedAt (doubled .0) (pitch .0) feedback adaptive ⌝ }
+{
+    let part = basicop::l_mult(basicop::mult(adaptive, doubled.0), pitch.0);
+    basicop::add(feedback, basicop::round(part))
+}
+
+fn enhanced(feedback: [i16; 40], adaptive: [i16; 40], doubled: Q15, pitch: Q14) -> [i16; 40]
+    ensures { λ r. ⌜ r ≡ enhanced (doubled .0) (pitch .0) feedback adaptive ⌝ }
+{
+    let mut r = feedback;
+    for i in 0..40 {
+        r[i] = enhanced_sample(feedback[i], adaptive[i], doubled, pitch);
+    }
+    r
+}
+
+// The first excitation of the synthesis.
+pub fn first_excitation(adaptive: [i16; 40], pitch: Q14, feedback: [i16; 40]) -> [i16; 40]
+    ensures { λ r. ⌜ r ≡ firstExcitation adaptive (pitch .0) feedback .value ⌝ }
+{
+    let doubled = basicop::doubled(excitation::next_sharpening(pitch));
+    if 16384 < doubled.0 {
+        return energy::match_energy(feedback, enhanced(feedback, adaptive, doubled, pitch));
+    }
+    feedback
+}
+
+// What comes of a subframe's synthesis.
+pub struct Synthesised {
+    // the first sample of the first pass at which a step clamped, 40 where none did
+    pub place: usize,
+    pub samples: [i16; 40],
+    pub feedback: [i16; 40],
+    pub past: [i16; 154],
+}
+
+// Syn_filt on the first excitation; where a step clamps, feedback and past are quartered and it runs again on that feedback.
+pub fn synthesise(
+    row: [i16; 11],
+    feedback: [i16; 40],
+    excitation: [i16; 40],
+    history: [i16; 10],
+    past: [i16; 154],
+) -> Synthesised
+    ensures { λ r. ⌜ r ≡ told (synthesised (record { row = row; feedback = feedback; excitation = excitation }) history past) ⌝ }
+{
+    let first = synthesis::preview(row, excitation, history);
+    let place = first.place;
+    if place < 40 {
+        let quarter = excitation::quarter(feedback);
+        let again = synthesis::filter(row, quarter, history);
+        let samples = again.samples;
+        return Synthesised {
+            place,
+            samples,
+            feedback: quarter,
+            past: excitation::take_in(excitation::quarter_past(past), quarter),
+        };
+    }
+    let samples = first.samples;
+    Synthesised {
+        place,
+        samples,
+        feedback,
+        past: excitation::take_in(past, feedback),
+    }
+}
+
+// The feedback before any quartering, and the first excitation.
+pub struct Excited {
+    pub feedback: [i16; 40],
+    pub excitation: [i16; 40],
+}
+
+// The caller shows that the lag lies in 19..=144, as every lag does.
+fn excite(past: [i16; 154], sharpening: Q14, p: Parameters) -> Excited
+    requires { ⌜ (19 ≤ p .lag .samples) × (p .lag .samples ≤ 144) ⌝ }
+    ensures { λ r. ⌜ r ≡ excited past (sharpening .0) p .value ⌝ }
+{
+    let lag = p.lag;
+    let pitch = p.pitch;
+    let adaptive = adaptive::predict(past, lag);
+    let innovation = p.innovation;
+    let code = excitation::sharpen(innovation, lag.samples as usize, sharpening);
+    let feedback = excitation::feedback(adaptive, code, pitch, p.code);
+    let excitation = first_excitation(adaptive, pitch, feedback);
+    Excited {
+        feedback,
+        excitation,
+    }
+}
+
+// What a subframe gives, and the core's state after it.
+pub struct Turned {
+    pub place: usize,
+    pub samples: [i16; 40],
+    pub next: Core,
+}
+
+// The subframe step.
+pub fn turn(core: Core, row: [i16; 11], p: Parameters) -> Turned
+    requires { ⌜ (19 ≤ p .lag .samples) × (p .lag .samples ≤ 144) ⌝ }
+    ensures { λ r. ⌜ r ≡ toldTurn (turn core row p) ⌝ }
+{
+    let past = core.past;
+    let e = excite(past, core.sharpening, p);
+    let feedback = e.feedback;
+    let excitation = e.excitation;
+    let history = core.history;
+    let s = synthesise(row, feedback, excitation, history, past);
+    let samples = s.samples;
+    let lsp = core.lsp;
+    let after = s.past;
+    let sharpening = excitation::next_sharpening(p.pitch);
+    let newest = synthesis::newest(samples);
+    Turned {
+        place: s.place,
+        samples,
+        next: Core {
+            lsp,
+            past: after,
+            sharpening,
+            history: newest,
+        },
+    }
+}
