@@ -1,3 +1,4 @@
--- Subframes: the two ways of the synthesis. Turns: the subframe step from its parts.
-pub mod Subframes
+-- Synthesis: the two ways of the synthesis. Turns: the subframe step from its parts. Retry: what document 01 says of retries.
+pub mod Synthesis
 pub mod Turns
+pub mod Retry

@@ -1,6 +1,6 @@
--- The core of a frame: everything up to the synthesis samples (Decoder_amr of TS 26.073, good frame, MR74). It takes and gives the core's part
--- of the state alone: the postfilter's memory is not in it.
-use mathlib.Core.List.{List, [], _∷_, _++_}
+-- The subframe step of the core: everything up to the synthesis samples (Decoder_amr of TS 26.073, good frame, MR74). It takes and gives the core's
+-- part of the state alone: the postfilter's memory is not in it.
+use mathlib.Core.List.{List}
 use lib.IntN.{ℤ}
 use Rattle.basicop.specs.Ops.{Quotient}
 use Rattle.basicop.specs.Divided.{Divided, undivided, after}

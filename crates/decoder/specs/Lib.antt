@@ -1,3 +1,4 @@
 pub mod Enhance
 pub mod Subframe
 pub mod Core
+pub mod Retry

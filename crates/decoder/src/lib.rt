@@ -1,7 +1,9 @@
-// The core of a frame: everything up to the synthesis samples.
+// The subframe step of the core: everything up to the synthesis samples.
 ghost use mathlib.Core.Path.{_≡_};
 ghost use mathlib.Core.Bool.{cond};
-ghost use Prim.Native.Nat.{_≤_};
+ghost use mathlib.Core.List.{_++_};
+ghost use Prim.Native.Nat.{_+_, _*_, _<_, _≤_};
+ghost use lib.ListN.{take};
 ghost use lib.IntN.{pos};
 ghost use Rattle.decoder.specs.Enhance.{enhancedAt, enhanced, firstExcitation};
 ghost use Rattle.decoder.specs.Subframe.{Fed, synthesised, told};
@@ -157,4 +159,16 @@ pub fn turn(core: Core, row: [i16; 11], p: Parameters) -> Turned
             history: newest,
         },
     }
+}
+
+// The frame with the samples of a subframe in their place.
+pub fn put(frame: [i16; 160], samples: [i16; 40], subframe: usize) -> [i16; 160]
+    requires { ⌜ subframe < 4 ⌝ }
+    ensures { λ r. ⌜ take (40 * subframe + 40) r ≡ take (40 * subframe) frame ++ samples ⌝ }
+{
+    let mut r = frame;
+    for i in 0..40 {
+        r[40 * subframe + i] = samples[i];
+    }
+    r
 }

@@ -70,3 +70,8 @@ module _ (P : ℤ → Type 0) (none : P (pos 0)) where
       last : (i : ℕ) → P (at (f n ∷ []) i)
       last zero = p n
       last (suc i) = none
+
+pub each-drop : (P : ℤ → Type 0) → P (pos 0) → (n : ℕ) (zs : List ℤ) → ((i : ℕ) → P (at zs i)) → (i : ℕ) → P (at (drop n zs) i)
+each-drop P o zero zs f i = f i
+each-drop P o (suc n) [] f i = o
+each-drop P o (suc n) (z ∷ zs) f i = each-drop P o n zs (λ j. f (suc j)) i

@@ -1,8 +1,8 @@
 -- The theorem of specs/Agree.antt: up to the first sample at which one lies outside 32 bits, the numbers before the clamps and the whole numbers are the same.
 -- Assumes nothing.
-use Prim.Native.Nat.{ℕ, zero, suc, _+_}
+use Prim.Native.Nat.{ℕ, zero, suc}
 use mathlib.Core.Path.{_≡_, refl, sym, ap, _∙_}
-use mathlib.Core.Bool.{false, _||_}
+use mathlib.Core.Bool.{false}
 use mathlib.Core.List.{List, [], _∷_, _++_}
 use lib.IntN.{ℤ, pos, _+ℤ_, _-ℤ_, _*ℤ_, *ℤ-comm}
 use lib.ListN.{length, take, drop}
@@ -11,7 +11,7 @@ use Rattle.lists.specs.Lists.{at}
 use Rattle.basicop.specs.Ops.{asr, clamp, L-mult, L-sub, L-shl, L-add}
 use Rattle.synthesis.specs.Fed.{outside, fed, leaves}
 use Rattle.synthesis.specs.Synthesis.{acc, accs, shifted, unheld, sample, samples}
-use Rattle.synthesis.specs.Whole.{product, sum, sums, wholes, whole, last, wholeSamples, retried, retriedAt}
+use Rattle.synthesis.specs.Whole.{product, sum, sums, wholes, whole, last, wholeSamples, retriedAt}
 use Rattle.synthesis.specs.Agree.{Agree}
 use Rattle.synthesis.proofs.Flags.{or-same, inside-clamp, leaves-one, leaves-two, two-none}
 use Rattle.synthesis.proofs.Fed.{fed-starts, cut, at-same, any-same, fed-same, until-same}

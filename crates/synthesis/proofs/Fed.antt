@@ -3,7 +3,6 @@ use Prim.Native.Nat.{ℕ, zero, suc, _+_, _<_, _≤_}
 use mathlib.Core.Path.{_≡_, refl, sym, ap, _∙_}
 use mathlib.Core.Bool.{Bool, true, false, cond}
 use mathlib.Core.List.{List, [], _∷_, _++_}
-use native.Mathlib.Numerals.{add-one}
 use native.Mathlib.Nat.{add-zero}
 use native.Mathlib.Omega.{arith}
 use lib.IntN.{ℤ, pos}
@@ -72,6 +71,12 @@ at-case : (b b′ : Bool) (i i′ : ℕ) → b′ ≡ b → (b ≡ false → i�
 at-case true b′ i i′ e f = rw e
 at-case false b′ i i′ e f = rw e (ap suc (f refl))
 
+until-case : (b : Bool) (k n : ℕ) (u v : List ℤ) → take k u ≡ take k v → (b ≡ false → take (k + 1 + n) u ≡ take (k + 1 + n) v) → take (k + cond b 0 (suc n)) u ≡ take (k + cond b 0 (suc n)) v
+until-case true k n u v e f = rw (add-zero k) e
+until-case false k n u v e f =
+    let i : k + suc n ≡ k + 1 + n = omega arith in
+    rw i (f refl)
+
 module _ (make make′ : ℤ → List ℤ → ℤ) (nums nums′ : ℤ → List ℤ → List ℤ) (flag : (x : ℤ) (y : List ℤ) → leaves (nums′ x y) ≡ leaves (nums x y)) (value : (x : ℤ) (y : List ℤ) → leaves (nums x y) ≡ false → make′ x y ≡ make x y) where
   pub at-same : (xs y : List ℤ) → leavesAt (numbersOf make′ nums′ xs y) ≡ leavesAt (numbersOf make nums xs y)
   unfolding numbersOf leavesAt
@@ -94,11 +99,5 @@ module _ (make make′ : ℤ → List ℤ → ℤ) (nums nums′ : ℤ → List 
   unfolding numbersOf leavesAt fed
   until-same [] y = refl
   until-same (x ∷ xs) y =
-      go (leaves (nums x y)) refl (λ e. rw (value x y e) (rw (length-append y (make x y ∷ [])) at (until-same xs (y ++ (make x y ∷ [])))))
-    where
-      go : (b : Bool) → leaves (nums x y) ≡ b → (leaves (nums x y) ≡ false → take (length y + 1 + leavesAt (numbersOf make nums xs (y ++ (make x y ∷ [])))) (fed make′ xs (y ++ (make′ x y ∷ []))) ≡ take (length y + 1 + leavesAt (numbersOf make nums xs (y ++ (make x y ∷ [])))) (fed make xs (y ++ (make x y ∷ [])))) → take (length y + cond b 0 (suc (leavesAt (numbersOf make nums xs (y ++ (make x y ∷ [])))))) (fed make′ xs (y ++ (make′ x y ∷ []))) ≡ take (length y + cond b 0 (suc (leavesAt (numbersOf make nums xs (y ++ (make x y ∷ [])))))) (fed make xs (y ++ (make x y ∷ [])))
-      go true e f = rw (add-zero (length y)) (fed-starts make′ (x ∷ xs) y ∙ sym (fed-starts make (x ∷ xs) y))
-      go false e f =
-          let n = leavesAt (numbersOf make nums xs (y ++ (make x y ∷ []))) in
-          let k : length y + suc n ≡ length y + 1 + n = omega arith in
-          rw k (f e)
+      until-case (leaves (nums x y)) (length y) _ _ _ (fed-starts make′ (x ∷ xs) y ∙ sym (fed-starts make (x ∷ xs) y))
+      (λ e. rw (value x y e) (rw (length-append y (make x y ∷ [])) at (until-same xs (y ++ (make x y ∷ [])))))

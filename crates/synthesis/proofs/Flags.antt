@@ -1,6 +1,6 @@
 -- Numbers outside 32 bits: what a clamp does to them, and whether and where a list has one. Assumes nothing.
-use Prim.Native.Nat.{ℕ, zero, suc, _+_, _≤_, compare·suc-suc}
-use mathlib.Core.Path.{_≡_, refl, sym, ap, _∙_, subst}
+use Prim.Native.Nat.{suc, _+_, _≤_, compare·suc-suc}
+use mathlib.Core.Path.{_≡_, refl, sym, _∙_, subst}
 use mathlib.Core.Bool.{Bool, true, false, _||_, cond, or-assoc, or-false}
 use mathlib.Core.List.{List, [], _∷_, _++_}
 use native.Mathlib.Omega.{arith}

@@ -1,23 +1,23 @@
 -- Lengths, ranges, and the flag from the place. Assumes nothing.
-use Prim.Native.Nat.{ℕ, zero, suc, _+_, _*_, _-_, _<_, _≤_}
+use Prim.Native.Nat.{ℕ, zero, suc, _+_, _*_, _-_, _≤_}
 use mathlib.Core.Path.{_≡_, refl, sym, ap, _∙_}
-use mathlib.Core.Bool.{Bool, true, false}
-use mathlib.Core.List.{List, [], _∷_, _++_, append-nil}
+use mathlib.Core.Bool.{false}
+use mathlib.Core.List.{List, append-nil}
 use native.Mathlib.Omega.{arith}
 use borrow.Author.Tests.{ltb-false}
 use lib.Dec.{ltb, lit<}
 use lib.IntN.{ℤ, pos}
-use lib.ListN.{length, take, drop, replicate, length-append, length-drop, drop-of-length-le}
-use lib.Seq.{take-all}
+use lib.ListN.{length, length-append, length-drop, drop-of-length-le, take, drop, take-append-drop}
+use lib.Seq.{take-all, length-take-le}
 use mir.Syntax.{w16}
 use mir.Val.{SFits}
 use Rattle.lists.specs.Lists.{at}
 use Rattle.basicop.proofs.Fits.{round-fits}
-use Rattle.synthesis.specs.Fed.{fed, numbersOf, leavesAny, leavesAt}
+use Rattle.synthesis.specs.Fed.{fed}
 use Rattle.synthesis.specs.Synthesis.{accs, unheld, unhelds, sample, samples, overflowed, overflowedAt, firstSamples, shifted, previewed}
 use Rattle.synthesis.specs.Whole.{sums, wholes, whole, wholeSamples}
 use Rattle.synthesis.proofs.Flags.{any-by-at, at-most}
-use Rattle.synthesis.proofs.Fed.{length-fed, length-numbers, fed-each}
+use Rattle.synthesis.proofs.Fed.{length-fed, fed-starts, fed-append, fed-each, length-numbers, cut}
 
 -- ---- 23 numbers a sample
 length-sums : (a : List ℤ) (x : ℤ) (y : List ℤ) (k : ℕ) → length (sums a x y k) ≡ 2 * k + 1
@@ -50,6 +50,15 @@ module _ (m : ℕ) (a xs h : List ℤ) where
 
   pub overflowedAt-most : overflowedAt m a xs h ≤ length xs
   overflowedAt-most = rw (length-numbers (sample m a) (unheld m a) xs h) at (at-most (unhelds m a xs h))
+
+-- ---- the samples for the first n numbers of the excitation are the first n samples
+pub samples-take : (n m : ℕ) (a xs h : List ℤ) → length h ≡ m → n ≤ length xs → samples m a (take n xs) h ≡ take n (samples m a xs h)
+samples-take n m a xs h l e =
+    let make = sample m a in
+    let z : fed make xs h ≡ fed make (drop n xs) (fed make (take n xs) h) = sym (ap (λ (u : List ℤ). fed make u h) (take-append-drop n xs)) ∙ fed-append make (take n xs) (drop n xs) h in
+    let k : length (fed make (take n xs) h) ≡ m + n = length-fed make (take n xs) h ∙ rw (length-take-le n xs e, l) in
+    let f : take (m + n) (fed make xs h) ≡ fed make (take n xs) h = rw (← k, z) (fed-starts make (drop n xs) (fed make (take n xs) h)) in
+    ap (drop m) (sym f) ∙ cut m n (fed make xs h) h (rw l at (fed-starts make xs h)) l
 
 -- ---- the samples for the whole excitation
 pub firstSamples-all : (n m : ℕ) (a xs h : List ℤ) → length xs ≤ n → firstSamples n m a xs h ≡ samples m a xs h

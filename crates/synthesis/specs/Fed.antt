@@ -1,7 +1,7 @@
 -- A recursion that is fed its own samples, and the first of its samples at which a number leaves the range of 32 bits:
 -- what both machines of document 01 are written with (Synthesis.antt: clamped steps; Whole.antt: whole numbers).
-use Prim.Native.Nat.{ℕ, zero, suc, _-_}
-use mathlib.Core.Bool.{Bool, true, false, _||_, cond}
+use Prim.Native.Nat.{ℕ, suc, _-_}
+use mathlib.Core.Bool.{Bool, false, _||_, cond}
 use mathlib.Core.List.{List, [], _∷_, _++_}
 use lib.IntN.{ℤ}
 use lib.ListN.{length}

@@ -103,7 +103,7 @@ pub fn filter(coefficients: [i16; 11], excitation: [i16; 40], history: [i16; 10]
     }
 }
 
-// ---- whole numbers, each at half its size up to the last two: they are even
+// ---- whole numbers: up to the sum they are even, and are kept at half their size
 // z lies outside the range of an i32
 fn outside(z: i64) -> bool
     ensures { λ r. ⌜ r ≡ outside z ⌝ }
@@ -159,7 +159,7 @@ fn product(a: i16, y: i16) -> i32
     (a as i32) * (y as i32)
 }
 
-// The same of a row whose weight is below 32768: no number can lie outside, and none is tested.
+// The same of a row whose weight, |a0| + .. + |a10|, is below 32768: no number up to the sum can lie outside, and none is tested.
 fn untested(a: &[i16; 11], x: i16, buf: &[i16; 50], at: usize) -> i32
     requires { ⌜ (length (now buf) ≡ 50) × ((10 ≤ at) × ((at < 50) × (weight (now a) 10 < 32768))) ⌝ }
     ensures { λ r. ⌜ Halved (now (a .entry)) x (take at (now (buf .entry))) 10 r false ⌝ }
@@ -191,6 +191,7 @@ fn light(a: &[i16; 11]) -> bool
     w < 32768
 }
 
+// The one or the other.
 fn summed(a: &[i16; 11], x: i16, buf: &[i16; 50], at: usize, light: bool) -> Sum
     requires { ⌜ (length (now buf) ≡ 50) × ((10 ≤ at) × ((at < 50) × (light ≡ ltb (weight (now a) 10) 32768))) ⌝ }
     ensures { λ r. ⌜ Halved (now (a .entry)) x (take at (now (buf .entry))) 10 (r .half) (r .out) ⌝ }
@@ -226,6 +227,7 @@ struct Pass {
     place: usize,
 }
 
+// Sample by sample, up to the first with a number outside.
 fn first_pass(coefficients: [i16; 11], excitation: [i16; 40], history: [i16; 10]) -> Pass
     ensures { λ r. ⌜ (r .place ≡ overflowedAt 10 coefficients excitation history) × (r .buf ≡ fed (sample 10 coefficients) (take (r .place) excitation) history ++ replicate (40 - r .place) (pos 0)) ⌝ }
 {

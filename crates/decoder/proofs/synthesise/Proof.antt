@@ -5,7 +5,7 @@ use borrow.Author.Needs.{needs}
 use lib.IntN.{ℤ}
 use Rattle.synthesis.specs.declared.Output.{Output}
 use Rattle.synthesis.specs.declared.Filtered.{Filtered}
-use Rattle.decoder.proofs.Subframes.{synthesised-again, synthesised-kept}
+use Rattle.decoder.proofs.Synthesis.{synthesised-again, synthesised-kept}
 use Rattle.decoder.proofs.synthesise.Statement.{statement}
 use Rattle.decoder.proofs.synthesise.Tie as tie
 

@@ -1,13 +1,12 @@
 use Prim.Native.Nat.{_≤_, _-_}
 use borrow.Author.Needs.{needs}
-use mathlib.Core.Path.{_≡_}
 use native.Mathlib.Omega.{arith}
 use lib.ListN.{take}
 use mir.Syntax.{w16, w32}
-use mir.Val.{toZ, ofZ}
+use mir.Val.{toZ}
 use Rattle.lists.specs.Lists.{at}
 use Rattle.lists.proofs.Signed.{back, got}
-use Rattle.synthesis.proofs.Loops.{Tapped, tapped-none, tapped-more, tapped-done, ago-take}
+use Rattle.synthesis.proofs.Taps.{Tapped, tapped-none, tapped-more, tapped-done, ago-take}
 use Rattle.synthesis.proofs.accumulated.Statement.{statement}
 use Rattle.synthesis.proofs.accumulated.Tie as tie
 

@@ -7,7 +7,7 @@ use mir.Facts.{toZ-ofZ}
 use Rattle.basicop.specs.Ops.{asr}
 use Rattle.basicop.proofs.Shift.{asr-fits, sfits-shr-same}
 use Rattle.synthesis.proofs.Flags.{or-right, inside-fits}
-use Rattle.synthesis.proofs.Loops.{scaled-is, scaled-fits, last-fits}
+use Rattle.synthesis.proofs.Halves.{scaled-is, scaled-fits, last-fits}
 use Rattle.synthesis.proofs.ended.Statement.{statement}
 use Rattle.synthesis.proofs.ended.Tie as tie
 

@@ -1,13 +1,12 @@
 use Prim.Native.Nat.{_+_, _≤_, _-_}
 use borrow.Author.Needs.{needs}
-use mathlib.Core.Path.{_≡_, ap, _∙_}
-use lib.IntN.{pos}
-use lib.ListN.{length, take, drop, replicate}
+use mathlib.Core.Path.{_≡_}
+use lib.ListN.{take}
 use mir.Syntax.{w16, w64}
 use mir.Val.{toZ, ofZ}
 use Rattle.lists.specs.Lists.{at}
-use Rattle.lists.proofs.Signed.{back, got}
-use Rattle.synthesis.proofs.Loops.{feeding-none, feeding-done, Passing, passing-none, Told, told, passing-more, passing-left, passing-done}
+use Rattle.lists.proofs.Signed.{back}
+use Rattle.synthesis.proofs.Passes.{feeding-none, feeding-done, Passing, passing-none, Told, told, passing-more, passing-left, passing-done}
 use Rattle.synthesis.proofs.first_pass.Statement.{statement}
 use Rattle.synthesis.proofs.first_pass.Tie as tie
 

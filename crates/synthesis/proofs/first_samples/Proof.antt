@@ -7,7 +7,7 @@ use mir.Syntax.{w16, w32}
 use Rattle.lists.specs.Lists.{at}
 use Rattle.lists.proofs.Signed.{back, got}
 use Rattle.synthesis.specs.Synthesis.{sample}
-use Rattle.synthesis.proofs.Loops.{Feeding, feeding-none, feeding-more, feeding-done, without-history}
+use Rattle.synthesis.proofs.Passes.{Feeding, feeding-none, feeding-more, feeding-done, without-history}
 use Rattle.synthesis.proofs.first_samples.Statement.{statement}
 use Rattle.synthesis.proofs.first_samples.Tie as tie
 

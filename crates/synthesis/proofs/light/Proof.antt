@@ -7,7 +7,7 @@ use lib.IntN.{natAbs}
 use mir.Syntax.{w16}
 use Rattle.lists.specs.Lists.{at}
 use Rattle.lists.proofs.Signed.{back}
-use Rattle.synthesis.proofs.Loops.{Weighed, weighed-none, weighed-more}
+use Rattle.synthesis.proofs.Taps.{Weighed, weighed-none, weighed-more}
 use Rattle.synthesis.proofs.light.Statement.{statement}
 use Rattle.synthesis.proofs.light.Tie as tie
 

@@ -6,7 +6,7 @@ use lib.IntN.{pos}
 use lib.ListN.{length, take, drop, replicate}
 use Rattle.synthesis.specs.Synthesis.{sample, firstSamples, overflowed, previewed}
 use Rattle.synthesis.proofs.Samples.{overflowed-by-at}
-use Rattle.synthesis.proofs.Loops.{without-history}
+use Rattle.synthesis.proofs.Passes.{without-history}
 use Rattle.synthesis.proofs.preview.Statement.{statement}
 use Rattle.synthesis.proofs.preview.Tie as tie
 

@@ -3,7 +3,7 @@ use borrow.Author.Needs.{needs}
 use mathlib.Core.Path.{sym, _∙_}
 use mathlib.Core.List.{_++_}
 use lib.IntN.{pos}
-use lib.ListN.{length, replicate, length-append}
+use lib.ListN.{replicate, length-append}
 use lib.Seq.{take-at, drop-at}
 use mir.Syntax.{w16}
 use Rattle.lists.proofs.Signed.{got}

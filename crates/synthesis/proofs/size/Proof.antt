@@ -3,7 +3,7 @@ use native.Mathlib.Omega.{arith}
 use lib.IntN.{ℤ, pos, negsuc, negℤ, natAbs, +ℤ-idl}
 use lib.Dec.{T, ltb→lt}
 use lib.Signed.{_<ℤ_, nonNeg}
-use Prim.Native.Nat.{ℕ, _<_, _≤_}
+use Prim.Native.Nat.{ℕ, _<_}
 use mir.Syntax.{w16, w32}
 use mir.Val.{SFits, Fits}
 use mir.Facts.{toZ-ofZ}

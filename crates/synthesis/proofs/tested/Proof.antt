@@ -10,7 +10,8 @@ use mir.Val.{toZ, ofZ}
 use mir.Facts.{toZ-ofZ}
 use Rattle.lists.specs.Lists.{at}
 use Rattle.lists.proofs.Signed.{back}
-use Rattle.synthesis.proofs.Loops.{ago-take, sub-fits, Summed, summed-none, summed-more, summed-left, summed-done}
+use Rattle.synthesis.proofs.Halves.{sub-fits}
+use Rattle.synthesis.proofs.Taps.{ago-take, Summed, summed-none, summed-more, summed-left, summed-done}
 use Rattle.synthesis.proofs.tested.Statement.{statement}
 use Rattle.synthesis.proofs.tested.Tie as tie
 

@@ -1,5 +1,5 @@
 use mir.Facts.{toZ-ofZ}
-use Rattle.synthesis.proofs.Loops.{twice-is}
+use Rattle.synthesis.proofs.Halves.{twice-is}
 use Rattle.synthesis.proofs.twice_outside.Statement.{statement}
 use Rattle.synthesis.proofs.twice_outside.Tie as tie
 

@@ -8,7 +8,7 @@ use mir.Val.{toZ, ofZ}
 use mir.Facts.{toZ-ofZ}
 use Rattle.lists.specs.Lists.{at}
 use Rattle.lists.proofs.Signed.{back}
-use Rattle.synthesis.proofs.Loops.{ago-take, summed-done, Light, light-none, light-fits, light-more}
+use Rattle.synthesis.proofs.Taps.{ago-take, summed-done, Light, light-none, light-fits, light-more}
 use Rattle.synthesis.proofs.untested.Statement.{statement}
 use Rattle.synthesis.proofs.untested.Tie as tie
 

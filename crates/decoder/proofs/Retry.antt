@@ -1,0 +1,65 @@
+-- The retries of a subframe are what document 01 says. Assumes nothing.
+use Prim.Native.Nat.{ℕ, zero, suc}
+use mathlib.Core.Path.{_≡_, refl, sym, ap, _∙_}
+use mathlib.Core.Bool.{Bool, true, false, cond}
+use mathlib.Core.List.{List, [], _∷_}
+use lib.IntN.{ℤ, pos, negsuc}
+use lib.ListN.{length, drop}
+use lib.Signed.{_≤ℤ_, leZ-yes}
+use mir.Syntax.{w16}
+use mir.Val.{SFits}
+use Rattle.lists.specs.Lists.{at}
+use Rattle.lists.proofs.Entries.{each-append, each-drop}
+use Rattle.basicop.specs.Ops.{shr}
+use Rattle.synthesis.specs.Synthesis.{samples, overflowed}
+use Rattle.synthesis.specs.Whole.{wholeSamples, retried, retriedAt}
+use Rattle.synthesis.proofs.Agree.{agree}
+use Rattle.excitation.specs.Excitation.{taking, quartered}
+use Rattle.excitation.proofs.Ranges.{quarter-range}
+use Rattle.decoder.specs.Subframe.{Fed, Subframe, kept, again, synthesised}
+use Rattle.decoder.specs.Retry.{Retry}
+
+-- a number in -8192..=8191
+abbrev Small : ℤ → Type 0
+Small z = (negsuc 8191 ≤ℤ z) × (z ≤ℤ pos 8191)
+
+small-zero : Small (pos 0)
+small-zero = (leZ-yes tt, leZ-yes tt)
+
+quartered-small : (zs : List ℤ) → ((i : ℕ) → SFits w16 (at zs i)) → (i : ℕ) → Small (at (quartered zs) i)
+quartered-small [] f i = small-zero
+quartered-small (z ∷ zs) f zero = quarter-range z (f 0)
+quartered-small (z ∷ zs) f (suc i) = quartered-small zs (λ j. f (suc j)) i
+
+module _ (f : Fed) (h p : List ℤ) (l : length h ≡ 10) where
+  flagged : (b : Bool) → retried 10 (f .row) (f .excitation) h ≡ b → synthesised f h p ≡ cond b (again f h p) (kept f h p)
+  unfolding synthesised
+  flagged b e = rw (agree 10 (f .row) (f .excitation) h l .flag, e)
+
+  -- the two cases
+  flag-is : (b : Bool) → retried 10 (f .row) (f .excitation) h ≡ b → synthesised f h p .retried ≡ retried 10 (f .row) (f .excitation) h
+  flag-is true e = ap (λ (s : Subframe). s .retried) (flagged true e) ∙ sym e
+  flag-is false e = ap (λ (s : Subframe). s .retried) (flagged false e) ∙ sym e
+
+  place-is : (b : Bool) → retried 10 (f .row) (f .excitation) h ≡ b → synthesised f h p .place ≡ retriedAt 10 (f .row) (f .excitation) h
+  place-is true e = ap (λ (s : Subframe). s .place) (flagged true e) ∙ agree 10 (f .row) (f .excitation) h l .place
+  place-is false e = ap (λ (s : Subframe). s .place) (flagged false e) ∙ agree 10 (f .row) (f .excitation) h l .place
+
+  pub retry : Retry f h p
+  retry =
+      record {
+        flag = flag-is (retried 10 (f .row) (f .excitation) h) refl;
+        place = place-is (retried 10 (f .row) (f .excitation) h) refl;
+        kept-samples = λ e. ap (λ (s : Subframe). s .samples) (flagged false e) ∙ agree 10 (f .row) (f .excitation) h l .all e;
+        kept-feedback = λ e. ap (λ (s : Subframe). s .feedback) (flagged false e);
+        kept-past = λ e. ap (λ (s : Subframe). s .past) (flagged false e);
+        again-samples = λ e. ap (λ (s : Subframe). s .samples) (flagged true e);
+        again-feedback = λ e. ap (λ (s : Subframe). s .feedback) (flagged true e);
+        again-past = λ e. ap (λ (s : Subframe). s .past) (flagged true e);
+        again-small = λ e q g i.
+            rw (flagged true e)
+            (each-append Small small-zero (drop 40 (quartered p)) (quartered (f .feedback))
+            (each-drop Small small-zero 40 (quartered p) (quartered-small p q))
+            (quartered-small (f .feedback) g)
+            i);
+      }

@@ -1,0 +1,55 @@
+-- A frame by its four subframes. Assumes nothing.
+use Prim.Native.Nat.{ℕ, zero, suc, _+_, _*_, _<_}
+use mathlib.Core.Path.{_≡_, refl, sym, _∙_}
+use mathlib.Core.List.{List, _++_}
+use native.Mathlib.Numerals.{add-one}
+use native.Mathlib.Omega.{arith}
+use lib.IntN.{ℤ, pos}
+use lib.ListN.{length, take, drop, length-drop}
+use lib.Seq.{length-take-le, getD-take, getD-drop, take-all}
+use Rattle.lists.specs.Lists.{at, iter}
+use Rattle.lpc.specs.declared.Rows.{Rows}
+use Rattle.postfilter.specs.declared.Postfilter.{Postfilter}
+use Rattle.postfilter.specs.declared.Subframe.{Subframe}
+use Rattle.postfilter.specs.declared.Frame.{Frame}
+use Rattle.postfilter.specs.Postfilter.{Processed, filtered, rowAt, part, processNext, processFrom, processed}
+
+pub part-length : (ys : List ℤ) (k : ℕ) → length ys ≡ 160 → k < 4 → length (part ys k) ≡ 40
+part-length ys k l h = length-take-le 40 (drop (40 * k) ys) (rw (length-drop (40 * k) ys, l) (omega arith))
+
+pub part-at : (ys : List ℤ) (k i : ℕ) → i < 40 → at ys (40 * k + i) ≡ at (part ys k) i
+part-at ys k i h = sym (getD-take 40 (drop (40 * k) ys) i (pos 0) h ∙ getD-drop (40 * k) ys i (pos 0))
+
+-- the fourth row, by the tests of the first three
+pub row-fourth : (rows : Rows) (k : ℕ) → (k ≡ 0 → ⊥) → (k ≡ 1 → ⊥) → (k ≡ 2 → ⊥) → rows .d ≡ rowAt rows k
+row-fourth rows zero h i j = absurd (h refl)
+row-fourth rows (suc zero) h i j = absurd (i refl)
+row-fourth rows (suc (suc zero)) h i j = absurd (j refl)
+row-fourth rows (suc (suc (suc k))) h i j = refl
+
+-- ---- the loop over the subframes: after k of them
+abbrev so-far : Postfilter → Rows → List ℤ → ℕ → Processed
+so-far m rows ys k = iter (processNext rows ys) k (processFrom m)
+
+pub record Framing (m : Postfilter) (rows : Rows) (ys out : List ℤ) (carried : Postfilter) (k : ℕ) : Type 0 where
+  pub room : length out ≡ 160
+  pub made : take (40 * k) out ≡ so-far m rows ys k .output .samples
+  pub memory : carried ≡ so-far m rows ys k .output .memory
+
+pub framing-none : (m : Postfilter) (rows : Rows) (ys out : List ℤ) → length out ≡ 160 → Framing m rows ys out m 0
+unfolding iter
+framing-none m rows ys out l = record { room = l; made = refl; memory = refl }
+
+pub framing-more : {m carried : Postfilter} {rows : Rows} {ys out next row xs : List ℤ} {f : Subframe} {k : ℕ} → Framing m rows ys out carried k → length next ≡ 160 → row ≡ rowAt rows k → xs ≡ part ys k → f ≡ filtered carried row xs .output → take (40 * k + 40) next ≡ take (40 * k) out ++ f .samples → Framing m rows ys next (f .memory) (k + 1)
+unfolding iter
+framing-more {m} {carried} {rows} {ys} {out} {next} {row} {xs} {f} {k} r l er ex ef en =
+    let n : 40 * suc k ≡ 40 * k + 40 = omega arith in
+    let e : f ≡ filtered (so-far m rows ys k .output .memory) (rowAt rows k) (part ys k) .output = ef ∙ rw (er, ex, r .memory) in
+    rw (add-one k) (record { room = l; made = rw n (en ∙ rw (r .made, e)); memory = rw e })
+
+pub framing-done : {m carried : Postfilter} {rows : Rows} {ys out : List ℤ} {k : ℕ} → Framing m rows ys out carried k → k ≡ 4 → _≡_ {A = Frame} (record { samples = out; memory = carried }) (processed m rows ys .output)
+unfolding processed
+framing-done {m} {carried} {rows} {ys} {out} {k} r e =
+    let s : out ≡ so-far m rows ys 4 .output .samples = sym (take-all 160 out (omega (arith, r .room))) ∙ rw e at (r .made) in
+    let p : carried ≡ so-far m rows ys 4 .output .memory = rw e at (r .memory) in
+    rw (s, p)

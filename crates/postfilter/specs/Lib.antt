@@ -1,0 +1,5 @@
+pub mod Weight
+pub mod Residual
+pub mod Tilt
+pub mod Preemphasis
+pub mod Postfilter

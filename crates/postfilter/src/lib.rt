@@ -1,0 +1,295 @@
+// The postfilter: Post_Filter of TS 26.073, with Weight_Ai, Residu and preemphasis.
+ghost use mathlib.Core.Path.{_≡_};
+ghost use mathlib.Core.List.{_++_};
+ghost use Prim.Native.Nat.{_+_, _*_, _<_, _≤_};
+ghost use lib.IntN.{pos};
+ghost use lib.ListN.{length, take, replicate};
+ghost use Rattle.lists.specs.Lists.{at};
+ghost use Rattle.postfilter.specs.Weight.{weighted};
+ghost use Rattle.postfilter.specs.Residual.{residualSum, residual};
+ghost use Rattle.postfilter.specs.Tilt.{impulse, energy, correlation, tiltOf};
+ghost use Rattle.postfilter.specs.Preemphasis.{emphasised, preemphasised};
+ghost use Rattle.postfilter.specs.Postfilter.{filtered, rowAt, part, processed};
+use basicop::div_s;
+use basicop::extract_h;
+use basicop::l_mac;
+use basicop::l_mult;
+use basicop::l_shl;
+use basicop::mult;
+use basicop::round;
+use basicop::sub;
+use energy::GainControl;
+use lpc::Rows;
+
+// What a subframe leaves to the next: its last ten inputs, the last ten samples of its second synthesis, its last residual, and the smoothed gain.
+pub struct Postfilter {
+    pub input_history: [i16; 10],
+    pub synthesis_history: [i16; 10],
+    pub previous_residual: i16,
+    pub gain: GainControl,
+}
+
+// The samples of a subframe, and the memory after it.
+pub struct Subframe {
+    pub samples: [i16; 40],
+    pub memory: Postfilter,
+}
+
+// The samples of a frame, and the memory after it.
+pub struct Frame {
+    pub samples: [i16; 160],
+    pub memory: Postfilter,
+}
+
+// Q15: powers of 0.55 and of 0.7.
+const NUMERATOR: [i16; 10] = [18022, 9912, 5451, 2998, 1649, 907, 499, 274, 151, 83];
+
+const DENOMINATOR: [i16; 10] = [22938, 16057, 11240, 7868, 5508, 3856, 2699, 1889, 1322, 925];
+
+// ---- Weight_Ai
+// `filter` lends the two tables.
+fn weight(coefficients: [i16; 11], factors: &[i16; 10]) -> [i16; 11]
+    requires { ⌜ length (now factors) ≡ 10 ⌝ }
+    ensures { λ r. ⌜ r ≡ weighted coefficients (now (factors .entry)) ⌝ }
+{
+    let mut r = coefficients;
+    for i in 0..10 {
+        r[i + 1] = round(l_mult(coefficients[i + 1], factors[i]));
+    }
+    r
+}
+
+// ---- Residu
+// The ten inputs before, with room for forty.
+fn opened(history: [i16; 10]) -> [i16; 50]
+    ensures { λ r. ⌜ take 10 r ≡ history ⌝ }
+{
+    let mut r = [0i16; 50];
+    for i in 0..10 {
+        r[i] = history[i];
+    }
+    r
+}
+
+// Forty after the first ten.
+fn joined(opened: [i16; 50], samples: [i16; 40]) -> [i16; 50]
+    ensures { λ r. ⌜ r ≡ take 10 opened ++ samples ⌝ }
+{
+    let mut r = opened;
+    for i in 0..40 {
+        r[10 + i] = samples[i];
+    }
+    r
+}
+
+// The sum for the input at a place.
+fn residual_sum(a: &[i16; 11], x: &[i16; 50], place: usize) -> i32
+    requires { ⌜ (10 ≤ place) × (place < 50) ⌝ }
+    ensures { λ r. ⌜ r ≡ residualSum (now (a .entry)) (now (x .entry)) place ⌝ }
+{
+    let mut s = l_mult(x[place], a[0]);
+    for j in 0..10 {
+        s = l_mac(s, a[j + 1], x[place - (j + 1)]);
+    }
+    s
+}
+
+fn residual(numerator: [i16; 11], history: [i16; 10], samples: [i16; 40]) -> [i16; 40]
+    ensures { λ r. ⌜ r ≡ residual numerator (history ++ samples) ⌝ }
+{
+    let x = joined(opened(history), samples);
+    let mut r = [0i16; 40];
+    for n in 0..40 {
+        r[n] = round(l_shl(residual_sum(&numerator, &x, n + 10), 3));
+    }
+    r
+}
+
+// ---- the tilt
+// A row, and zeros after it.
+fn padded(row: [i16; 11]) -> [i16; 40]
+    ensures { λ r. ⌜ r ≡ row ++ replicate 29 (pos 0) ⌝ }
+{
+    let mut r = [0i16; 40];
+    for i in 0..11 {
+        r[i] = row[i];
+    }
+    r
+}
+
+// Of forty samples, the 22 that were made.
+fn first_22(samples: [i16; 40]) -> [i16; 22]
+    ensures { λ r. ⌜ r ≡ take 22 samples ⌝ }
+{
+    let mut r = [0i16; 22];
+    for i in 0..22 {
+        r[i] = samples[i];
+    }
+    r
+}
+
+// The impulse response.
+fn impulse(numerator: [i16; 11], denominator: [i16; 11]) -> [i16; 22]
+    ensures { λ r. ⌜ r ≡ impulse numerator denominator ⌝ }
+{
+    let samples = synthesis::first_samples(denominator, padded(numerator), [0i16; 10], 22);
+    first_22(samples)
+}
+
+// Each sample by itself.
+fn energy(h: [i16; 22]) -> i32
+    ensures { λ r. ⌜ r ≡ energy h ⌝ }
+{
+    let mut s = 0;
+    for k in 0..22 {
+        s = l_mac(s, h[k], h[k]);
+    }
+    s
+}
+
+// Each sample by the next.
+fn correlation(h: [i16; 22]) -> i32
+    ensures { λ r. ⌜ r ≡ correlation h ⌝ }
+{
+    let mut s = 0;
+    for k in 0..21 {
+        s = l_mac(s, h[k], h[k + 1]);
+    }
+    s
+}
+
+// 26214 is 0.8 (Q15). The correlation is at most the energy, so that the division is in order: `tilt-asks`.
+fn tilt_of(h: [i16; 22]) -> i16
+    ensures { λ r. ⌜ r ≡ tiltOf h .value ⌝ }
+{
+    let r1 = extract_h(correlation(h));
+    if r1 <= 0 {
+        return 0;
+    }
+    let r0 = extract_h(energy(h));
+    div_s(mult(r1, 26214), r0)
+}
+
+// ---- preemphasis
+fn emphasised(residual: i16, before: i16, tilt: i16) -> i16
+    ensures { λ r. ⌜ r ≡ emphasised tilt residual before ⌝ }
+{
+    sub(residual, mult(tilt, before))
+}
+
+// Each residual, less the tilt times the one before it as it was.
+fn preemphasis(residual: [i16; 40], tilt: i16, carried: i16) -> [i16; 40]
+    ensures { λ r. ⌜ r ≡ preemphasised tilt carried residual ⌝ }
+{
+    let mut r = residual;
+    let mut previous = carried;
+    for i in 0..40 {
+        r[i] = emphasised(residual[i], previous, tilt);
+        previous = residual[i];
+    }
+    r
+}
+
+// ---- a subframe
+// The excitation of the second synthesis, and the last residual before it was changed.
+struct Excited {
+    samples: [i16; 40],
+    last: i16,
+}
+
+fn excitation(
+    numerator: [i16; 11],
+    tilt: i16,
+    history: [i16; 10],
+    carried: i16,
+    samples: [i16; 40],
+) -> Excited
+    ensures { λ r. ⌜ (r .samples ≡ preemphasised tilt carried (residual numerator (history ++ samples))) × (r .last ≡ at (residual numerator (history ++ samples)) 39) ⌝ }
+{
+    let whitened = residual(numerator, history, samples);
+    let out = preemphasis(whitened, tilt, carried);
+    Excited {
+        samples: out,
+        last: whitened[39],
+    }
+}
+
+// One subframe, from its row and its synthesis samples.
+pub fn filter(memory: Postfilter, coefficients: [i16; 11], samples: [i16; 40]) -> Subframe
+    ensures { λ r. ⌜ r ≡ filtered memory coefficients samples .output ⌝ }
+{
+    let numerators = NUMERATOR;
+    let denominators = DENOMINATOR;
+    let numerator = weight(coefficients, &numerators);
+    let denominator = weight(coefficients, &denominators);
+    let tilt = tilt_of(impulse(numerator, denominator));
+    let history = memory.input_history;
+    let carried = memory.previous_residual;
+    let excited = excitation(numerator, tilt, history, carried, samples);
+    let fed = excited.samples;
+    let last = excited.last;
+    let past = memory.synthesis_history;
+    let out = synthesis::filter(denominator, fed, past);
+    let unscaled = out.samples;
+    let synthesis_history = out.history;
+    let gain = memory.gain;
+    let controlled = energy::process(gain, samples, unscaled);
+    let scaled = controlled.samples;
+    let control = controlled.control;
+    let input_history = synthesis::newest(samples);
+    Subframe {
+        samples: scaled,
+        memory: Postfilter {
+            input_history,
+            synthesis_history,
+            previous_residual: last,
+            gain: control,
+        },
+    }
+}
+
+// ---- a frame
+// The row of a subframe.
+fn row_of(rows: Rows, subframe: usize) -> [i16; 11]
+    ensures { λ r. ⌜ r ≡ rowAt rows subframe ⌝ }
+{
+    match subframe {
+        0 => rows.a,
+        1 => rows.b,
+        2 => rows.c,
+        _ => rows.d,
+    }
+}
+
+// The samples of a subframe.
+fn part(samples: [i16; 160], subframe: usize) -> [i16; 40]
+    requires { ⌜ subframe < 4 ⌝ }
+    ensures { λ r. ⌜ r ≡ part samples subframe ⌝ }
+{
+    let mut r = [0i16; 40];
+    for i in 0..40 {
+        r[i] = samples[40 * subframe + i];
+    }
+    r
+}
+
+pub fn process(memory: Postfilter, samples: [i16; 160], rows: Rows) -> Frame
+    ensures { λ r. ⌜ r ≡ processed memory rows samples .output ⌝ }
+{
+    let mut out = samples;
+    let mut carried = memory;
+    for k in 0..4 {
+        let row = row_of(rows, k);
+        let input = part(samples, k);
+        let filtered = filter(carried, row, input);
+        let made = filtered.samples;
+        let next = decoder::put(out, made, k);
+        out = next;
+        let left = filtered.memory;
+        carried = left;
+    }
+    Frame {
+        samples: out,
+        memory: carried,
+    }
+}
