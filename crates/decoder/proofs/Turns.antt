@@ -1,8 +1,11 @@
 -- A subframe step, put together from what its parts give. Assumes nothing.
 use mathlib.Core.Path.{_≡_, refl}
-use mathlib.Core.List.{List}
+use mathlib.Core.List.{List, [], _∷_, _++_}
 use lib.IntN.{ℤ}
 use Rattle.pitch.specs.Lag.{lagOf}
+use Rattle.spectral.specs.Lsp.{lspsOf}
+use Rattle.lpc.specs.Rows.{rowsOf}
+use Rattle.lpc.specs.declared.Rows.{Rows}
 use Rattle.adaptive.specs.Predict.{predicted}
 use Rattle.excitation.specs.Excitation.{sharpened, sharpening, feedback}
 use Rattle.synthesis.specs.Synthesis.{newest}
@@ -11,9 +14,12 @@ use Rattle.decoder.specs.declared.Parameters.{Parameters}
 use Rattle.decoder.specs.declared.Excited.{Excited}
 use Rattle.decoder.specs.declared.Synthesised.{Synthesised}
 use Rattle.decoder.specs.declared.Turned.{Turned}
+use Rattle.decoder.specs.declared.Subframes.{Subframes}
+use Rattle.decoder.specs.declared.Ran.{Ran}
+use Rattle.decoder.specs.declared.Frame.{Frame}
 use Rattle.decoder.specs.Enhance.{firstExcitation}
 use Rattle.decoder.specs.Subframe.{Fed, synthesised, told}
-use Rattle.decoder.specs.Core.{excited, turn, toldTurn}
+use Rattle.decoder.specs.Core.{excited, turn, toldTurn, ran, toldRun, decoded, toldFrame}
 
 pub excited-is : (past : List ℤ) (sharp : ℤ) (p : Parameters) {v code exc x : List ℤ} → v ≡ predicted past (lagOf (p .lag)) → code ≡ sharpened (p .innovation) (p .lag .samples) sharp → exc ≡ feedback v (p .pitch .0) code (p .code .0) → x ≡ firstExcitation v (p .pitch .0) exc .value → _≡_ {A = Excited} (record { feedback = exc; excitation = x }) (excited past sharp p .value)
 unfolding excited
@@ -26,3 +32,19 @@ module _ (c : Core) (row : List ℤ) (p : Parameters) where
   pub turned-is : {e : Excited} {s : Synthesised} {g : ℤ} {h : List ℤ} → e ≡ excited (c .past) (c .sharpening .0) p .value → s ≡ told (synthesised (fed e) (c .history) (c .past)) → g ≡ sharpening (p .pitch .0) → h ≡ newest 10 (s .samples) → _≡_ {A = Turned} (record { place = s .place; samples = s .samples; next = record { lsp = c .lsp; past = s .past; sharpening = record { 0 = g }; history = h } }) (toldTurn (turn c row p))
   unfolding turn
   turned-is ee es eg eh = rw (eh, es, ee, eg)
+
+-- ---- four of them
+module _ (core : Core) (rows : Rows) (p : Subframes) where
+  pub ran-is : {a b c d : Turned} {ys : List ℤ} → a ≡ toldTurn (turn core (rows .a) (p .a)) → b ≡ toldTurn (turn (a .next) (rows .b) (p .b)) → c ≡ toldTurn (turn (b .next) (rows .c) (p .c)) → d ≡ toldTurn (turn (c .next) (rows .d) (p .d)) → ys ≡ a .samples ++ (b .samples ++ (c .samples ++ d .samples)) → _≡_ {A = Ran} (record { places = a .place ∷ b .place ∷ c .place ∷ d .place ∷ []; samples = ys; next = d .next }) (toldRun (ran core rows p))
+  unfolding ran
+  ran-is ea eb ec ed ey = rw (ey, ed, ec, eb, ea)
+
+-- ---- a frame
+module _ (c : Core) (lsfs : List ℤ) (p : Subframes) where
+  -- the state as the subframes take it
+  abbrev opened : List ℤ → Core
+  opened lsps = record { lsp = lsps; past = c .past; sharpening = c .sharpening; history = c .history }
+
+  pub decoded-is : {lsps : List ℤ} {rows : Rows} {run : Ran} → lsps ≡ lspsOf lsfs → rows ≡ rowsOf (c .lsp) lsps → run ≡ toldRun (ran (opened lsps) rows p) → _≡_ {A = Frame} (record { rows = rows; run = run }) (toldFrame (decoded c lsfs p))
+  unfolding decoded
+  decoded-is el er en = rw (en, er, el)

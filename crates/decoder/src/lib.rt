@@ -1,4 +1,4 @@
-// The subframe step of the core: everything up to the synthesis samples.
+// The core of a frame: everything up to the synthesis samples.
 ghost use mathlib.Core.Path.{_≡_};
 ghost use mathlib.Core.Bool.{cond};
 ghost use mathlib.Core.List.{_++_};
@@ -7,10 +7,12 @@ ghost use lib.ListN.{take};
 ghost use lib.IntN.{pos};
 ghost use Rattle.decoder.specs.Enhance.{enhancedAt, enhanced, firstExcitation};
 ghost use Rattle.decoder.specs.Subframe.{Fed, synthesised, told};
-ghost use Rattle.decoder.specs.Core.{excited, turn, toldTurn};
+ghost use Rattle.decoder.specs.Core.{excited, turn, toldTurn, Lags, ran, toldRun, decoded, toldFrame};
+ghost use Rattle.spectral.specs.Lsp.{Frequencies};
 use basicop::Q1;
 use basicop::Q14;
 use basicop::Q15;
+use lpc::Rows;
 use pitch::PitchLag;
 
 // The core's part of the state: fields 0 to 174 of the record, in its order.
@@ -171,4 +173,87 @@ pub fn put(frame: [i16; 160], samples: [i16; 40], subframe: usize) -> [i16; 160]
         r[40 * subframe + i] = samples[i];
     }
     r
+}
+
+fn joined(a: [i16; 40], b: [i16; 40], c: [i16; 40], d: [i16; 40]) -> [i16; 160]
+    ensures { λ r. ⌜ r ≡ a ++ (b ++ (c ++ d)) ⌝ }
+{
+    let first = put([0i16; 160], a, 0);
+    let second = put(first, b, 1);
+    let third = put(second, c, 2);
+    put(third, d, 3)
+}
+
+// What the sheet gives for the four subframes.
+pub struct Subframes {
+    pub a: Parameters,
+    pub b: Parameters,
+    pub c: Parameters,
+    pub d: Parameters,
+}
+
+// The four subframes, each from the state that the one before left.
+pub struct Ran {
+    pub places: [usize; 4],
+    pub samples: [i16; 160],
+    pub next: Core,
+}
+
+fn run(core: Core, rows: Rows, p: Subframes) -> Ran
+    requires { ⌜ Lags p ⌝ }
+    ensures { λ r. ⌜ r ≡ toldRun (ran core rows p) ⌝ }
+{
+    let first = rows.a;
+    let pa = p.a;
+    let a = turn(core, first, pa);
+    let after_a = a.next;
+    let second = rows.b;
+    let pb = p.b;
+    let b = turn(after_a, second, pb);
+    let after_b = b.next;
+    let third = rows.c;
+    let pc = p.c;
+    let c = turn(after_b, third, pc);
+    let after_c = c.next;
+    let fourth = rows.d;
+    let pd = p.d;
+    let d = turn(after_c, fourth, pd);
+    let next = d.next;
+    let ya = a.samples;
+    let yb = b.samples;
+    let yc = c.samples;
+    let yd = d.samples;
+    let samples = joined(ya, yb, yc, yd);
+    Ran {
+        places: [a.place, b.place, c.place, d.place],
+        samples,
+        next,
+    }
+}
+
+// The rows of a frame, and what its subframes give.
+pub struct Frame {
+    pub rows: Rows,
+    pub run: Ran,
+}
+
+// The core of a frame. The test of the sheet shows what it asks: refusals 2 and 3.
+pub fn decode(core: Core, lsf: [i16; 10], p: Subframes) -> Frame
+    requires { ⌜ Frequencies lsf × Lags p ⌝ }
+    ensures { λ r. ⌜ r ≡ toldFrame (decoded core lsf p) ⌝ }
+{
+    let lsp = spectral::lsf_to_lsp(lsf);
+    let before = core.lsp;
+    let rows = lpc::interpolate(before, lsp);
+    let past = core.past;
+    let sharpening = core.sharpening;
+    let history = core.history;
+    let opened = Core {
+        lsp,
+        past,
+        sharpening,
+        history,
+    };
+    let ran = run(opened, rows, p);
+    Frame { rows, run: ran }
 }

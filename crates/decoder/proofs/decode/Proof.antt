@@ -1,0 +1,20 @@
+use borrow.Author.Needs.{needs}
+use Rattle.decoder.proofs.Turns.{decoded-is}
+use Rattle.decoder.proofs.decode.Statement.{statement}
+use Rattle.decoder.proofs.decode.Tie as tie
+
+returns : tie.Need-returns
+returns c =
+    let rows = c .before .before .before .before in
+    let lsps = rows .before .before in
+    let s = lsps .before in
+    decoded-is (s .args .core) (s .args .lsf) (s .args .p) (lsps .lsf-to-lsp .ensures) (rows .interpolate .ensures) (c .run .ensures)
+
+pub decode-spec : {M : Type 1} → statement M
+decode-spec =
+    tie.close
+    (tie.spec
+    (λ c κs. search needs)
+    (λ c κs. search needs)
+    (λ c κs. search needs)
+    returns)
