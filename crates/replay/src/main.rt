@@ -4,8 +4,10 @@ ghost use Prim.Native.Nat.{_+_, _*_, _≤_, _<_};
 ghost use lib.ListN.{length};
 use energy::GainControl;
 use libc::STDOUT_FILENO;
+use lpc::Rows;
 use pitch::Fraction;
 use pitch::PitchLag;
+use postfilter::Postfilter;
 
 fn wide(x: u8) -> u32
     ensures { λ r. ⌜ r < 256 ⌝ }
@@ -44,7 +46,7 @@ fn long(b: &[u8], k: usize) -> i32
 }
 
 fn ten(b: &[u8], from: usize) -> [i16; 10]
-    requires { ⌜ (from < 900) × (2 * from + 20 ≤ length (now b)) ⌝ }
+    requires { ⌜ (from < 800) × (2 * from + 20 ≤ length (now b)) ⌝ }
 {
     let mut r = [0i16; 10];
     for i in 0..10 {
@@ -55,7 +57,7 @@ fn ten(b: &[u8], from: usize) -> [i16; 10]
 
 // the words from a place on are these
 fn same(b: &[u8], from: usize, xs: &[i16]) -> bool
-    requires { ⌜ (from < 900) × ((length (now xs) ≤ 100) × (2 * from + 2 * length (now xs) ≤ length (now b))) ⌝ }
+    requires { ⌜ (from < 800) × ((length (now xs) ≤ 200) × (2 * from + 2 * length (now xs) ≤ length (now b))) ⌝ }
 {
     let mut i = 0;
     while i < xs.len() {
@@ -122,14 +124,14 @@ fn convert(b: &[u8]) -> bool {
 
 // the words from a place on are these ten
 fn ten_same(b: &[u8], from: usize, xs: [i16; 10]) -> bool
-    requires { ⌜ (from < 900) × (2 * from + 20 ≤ length (now b)) ⌝ }
+    requires { ⌜ (from < 800) × (2 * from + 20 ≤ length (now b)) ⌝ }
 {
     same(b, from, &xs)
 }
 
 // the words from a place on are the row
 fn row(b: &[u8], from: usize, row: [i16; 11]) -> bool
-    requires { ⌜ (from < 900) × (2 * from + 22 ≤ length (now b)) ⌝ }
+    requires { ⌜ (from < 800) × (2 * from + 22 ≤ length (now b)) ⌝ }
 {
     same(b, from, &row)
 }
@@ -183,7 +185,7 @@ fn predict(b: &[u8]) -> bool {
 }
 
 fn forty(b: &[u8], from: usize) -> [i16; 40]
-    requires { ⌜ (from < 900) × (2 * from + 80 ≤ length (now b)) ⌝ }
+    requires { ⌜ (from < 800) × (2 * from + 80 ≤ length (now b)) ⌝ }
 {
     let mut r = [0i16; 40];
     for i in 0..40 {
@@ -194,7 +196,7 @@ fn forty(b: &[u8], from: usize) -> [i16; 40]
 
 // the words from a place on are the subframe
 fn subframe(b: &[u8], from: usize, samples: [i16; 40]) -> bool
-    requires { ⌜ (from < 900) × (2 * from + 80 ≤ length (now b)) ⌝ }
+    requires { ⌜ (from < 800) × (2 * from + 80 ≤ length (now b)) ⌝ }
 {
     same(b, from, &samples)
 }
@@ -233,7 +235,7 @@ fn gain_control(b: &[u8]) -> bool {
 }
 
 fn row_of(b: &[u8], from: usize) -> [i16; 11]
-    requires { ⌜ (from < 900) × (2 * from + 22 ≤ length (now b)) ⌝ }
+    requires { ⌜ (from < 800) × (2 * from + 22 ≤ length (now b)) ⌝ }
 {
     let mut r = [0i16; 11];
     for i in 0..11 {
@@ -270,6 +272,73 @@ fn both_passes(b: &[u8]) -> bool {
     first_pass(b) && clamped_pass(b)
 }
 
+// the samples of a frame
+fn frame_of(b: &[u8], from: usize) -> [i16; 160]
+    requires { ⌜ (from < 800) × (2 * from + 320 ≤ length (now b)) ⌝ }
+{
+    let mut r = [0i16; 160];
+    for i in 0..160 {
+        r[i] = word(b, from + i);
+    }
+    r
+}
+
+fn frame_same(b: &[u8], from: usize, samples: [i16; 160]) -> bool
+    requires { ⌜ (from < 800) × (2 * from + 320 ≤ length (now b)) ⌝ }
+{
+    same(b, from, &samples)
+}
+
+fn rows_of(b: &[u8], from: usize) -> Rows
+    requires { ⌜ (from < 700) × (2 * from + 88 ≤ length (now b)) ⌝ }
+{
+    Rows {
+        a: row_of(b, from),
+        b: row_of(b, from + 11),
+        c: row_of(b, from + 22),
+        d: row_of(b, from + 33),
+    }
+}
+
+fn memory_of(b: &[u8], from: usize) -> Postfilter
+    requires { ⌜ (from < 700) × (2 * from + 44 ≤ length (now b)) ⌝ }
+{
+    let gain = GainControl {
+        previous_gain: word(b, from + 21),
+    };
+    Postfilter {
+        input_history: ten(b, from),
+        synthesis_history: ten(b, from + 10),
+        previous_residual: word(b, from + 20),
+        gain,
+    }
+}
+
+fn memory_same(b: &[u8], from: usize, memory: Postfilter) -> bool
+    requires { ⌜ (from < 700) × (2 * from + 44 ≤ length (now b)) ⌝ }
+{
+    let input = memory.input_history;
+    let output = memory.synthesis_history;
+    if !ten_same(b, from, input) {
+        return false;
+    }
+    if !ten_same(b, from + 10, output) {
+        return false;
+    }
+    word(b, from + 20) == memory.previous_residual
+        && word(b, from + 21) == memory.gain.previous_gain
+}
+
+fn postfiltered(b: &[u8]) -> bool {
+    if b.len() < 816 {
+        return false;
+    }
+    let r = postfilter::process(memory_of(b, 0), frame_of(b, 22), rows_of(b, 182));
+    let samples = r.samples;
+    let memory = r.memory;
+    frame_same(b, 226, samples) && memory_same(b, 386, memory)
+}
+
 // The stage of a file, by its number, on a record.
 fn agrees(stage: u32, b: &[u8]) -> bool {
     match stage {
@@ -284,6 +353,7 @@ fn agrees(stage: u32, b: &[u8]) -> bool {
         8 => match_energy(b),
         9 => gain_control(b),
         10 => both_passes(b),
+        11 => postfiltered(b),
         _ => false,
     }
 }
@@ -306,15 +376,15 @@ fn turn(fd: i32, stage: u32, b: &mut [u8]) -> u32 {
 }
 
 fn record(fd: i32, stage: u32, size: usize) -> u32
-    requires { ⌜ size ≤ 512 ⌝ }
+    requires { ⌜ size ≤ 2048 ⌝ }
 {
-    let mut buffer = [0u8; 512];
+    let mut buffer = [0u8; 2048];
     turn(fd, stage, &mut buffer[0..size])
 }
 
 // All the records of a file, at most a million: nothing says that a file ends.
 fn run(fd: i32, stage: u32, size: usize) -> Counts
-    requires { ⌜ size ≤ 512 ⌝ }
+    requires { ⌜ size ≤ 2048 ⌝ }
 {
     let mut records: u64 = 0;
     let mut different: u64 = 0;
@@ -332,7 +402,7 @@ fn run(fd: i32, stage: u32, size: usize) -> Counts
 }
 
 fn file(name: &[u8], stage: u32, words: usize)
-    requires { ⌜ words ≤ 256 ⌝ }
+    requires { ⌜ words ≤ 1024 ⌝ }
 {
     io::write_all(STDOUT_FILENO, name);
     let fd = os::open_read(name);
@@ -361,4 +431,5 @@ fn main() {
     file(b"match_energy.bin", 8, 120);
     file(b"gain_control.bin", 9, 122);
     file(b"synthesis.bin", 10, 112);
+    file(b"postfilter.bin", 11, 408);
 }
