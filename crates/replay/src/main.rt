@@ -2,6 +2,12 @@
 // and how many differ. A record is a row of 16-bit words, low byte first: inputs, then answers.
 ghost use Prim.Native.Nat.{_+_, _*_, _≤_, _<_};
 ghost use lib.ListN.{length};
+ghost use Rattle.decoder.specs.Core.{Lags};
+use basicop::Q1;
+use basicop::Q14;
+use decoder::Core;
+use decoder::Parameters;
+use decoder::Subframes;
 use energy::GainControl;
 use libc::STDOUT_FILENO;
 use lpc::Rows;
@@ -148,12 +154,12 @@ fn interpolate(b: &[u8]) -> bool {
     row(b, 20, first) && row(b, 31, second) && row(b, 42, third) && row(b, 53, fourth)
 }
 
-fn past_of(b: &[u8]) -> [i16; 154]
-    requires { ⌜ 308 ≤ length (now b) ⌝ }
+fn past_of(b: &[u8], from: usize) -> [i16; 154]
+    requires { ⌜ (from < 800) × (2 * from + 308 ≤ length (now b)) ⌝ }
 {
     let mut r = [0i16; 154];
     for i in 0..154 {
-        r[i] = word(b, i);
+        r[i] = word(b, from + i);
     }
     r
 }
@@ -180,7 +186,7 @@ fn predict(b: &[u8]) -> bool {
         samples: samples as u16,
         fraction: fraction_of(bits(b, 155)),
     };
-    let r = adaptive::predict(past_of(b), lag);
+    let r = adaptive::predict(past_of(b, 0), lag);
     same(b, 156, &r)
 }
 
@@ -339,6 +345,146 @@ fn postfiltered(b: &[u8]) -> bool {
     frame_same(b, 226, samples) && memory_same(b, 386, memory)
 }
 
+// The lag of a sheet's subframe. A recorded sheet gives none outside 19 to 144.
+fn lag_at(b: &[u8], k: usize, relative: bool, previous: u16) -> PitchLag
+    requires { ⌜ (k < 800) × (2 * k + 2 ≤ length (now b)) ⌝ }
+    ensures { λ r. ⌜ (19 ≤ r .samples) × (r .samples ≤ 144) ⌝ }
+{
+    let index = bits(b, k);
+    let l = lag_of(relative, (index % 256) as u8, previous);
+    let samples = l.samples;
+    let fraction = l.fraction;
+    if samples < 19 || 144 < samples {
+        return PitchLag {
+            samples: 19,
+            fraction: Fraction::Zero,
+        };
+    }
+    PitchLag { samples, fraction }
+}
+
+fn parameters(b: &[u8], k: usize, lag: PitchLag) -> Parameters
+    requires { ⌜ (k < 4) × ((364 ≤ length (now b)) × ((19 ≤ lag .samples) × (lag .samples ≤ 144))) ⌝ }
+    ensures { λ r. ⌜ (19 ≤ r .lag .samples) × (r .lag .samples ≤ 144) ⌝ }
+{
+    let pitch = Q14(word(b, 14 + 2 * k));
+    let code = Q1(word(b, 15 + 2 * k));
+    let innovation = forty(b, 22 + 40 * k);
+    Parameters {
+        lag,
+        pitch,
+        code,
+        innovation,
+    }
+}
+
+fn subframes(b: &[u8]) -> Subframes
+    requires { ⌜ 364 ≤ length (now b) ⌝ }
+    ensures { λ r. ⌜ Lags r ⌝ }
+{
+    let la = lag_at(b, 10, false, 0);
+    let lb = lag_at(b, 11, true, la.samples);
+    let lc = lag_at(b, 12, false, 0);
+    let ld = lag_at(b, 13, true, lc.samples);
+    let pa = parameters(b, 0, la);
+    let pb = parameters(b, 1, lb);
+    let pc = parameters(b, 2, lc);
+    let pd = parameters(b, 3, ld);
+    Subframes {
+        a: pa,
+        b: pb,
+        c: pc,
+        d: pd,
+    }
+}
+
+fn core_of(b: &[u8], from: usize) -> Core
+    requires { ⌜ (from < 600) × (2 * from + 350 ≤ length (now b)) ⌝ }
+{
+    let lsp = ten(b, from);
+    let past = past_of(b, from + 10);
+    let sharpening = Q14(word(b, from + 164));
+    let history = ten(b, from + 165);
+    Core {
+        lsp,
+        past,
+        sharpening,
+        history,
+    }
+}
+
+fn past_same(b: &[u8], from: usize, past: [i16; 154]) -> bool
+    requires { ⌜ (from < 800) × (2 * from + 308 ≤ length (now b)) ⌝ }
+{
+    same(b, from, &past)
+}
+
+fn core_same(b: &[u8], from: usize, core: Core) -> bool
+    requires { ⌜ (from < 600) × (2 * from + 350 ≤ length (now b)) ⌝ }
+{
+    let lsp = core.lsp;
+    let past = core.past;
+    let history = core.history;
+    if !ten_same(b, from, lsp) {
+        return false;
+    }
+    if !past_same(b, from + 10, past) {
+        return false;
+    }
+    word(b, from + 164) == core.sharpening.0 && ten_same(b, from + 165, history)
+}
+
+// a flag is 1 where a step of the first pass clamped
+fn flags_same(b: &[u8], from: usize, places: [usize; 4]) -> bool
+    requires { ⌜ (from < 800) × (2 * from + 8 ≤ length (now b)) ⌝ }
+{
+    for i in 0..4 {
+        let flag = bits(b, from + i);
+        if (flag == 1) != (places[i] < 40) {
+            return false;
+        }
+    }
+    true
+}
+
+fn row_same(b: &[u8], from: usize, row: [i16; 11]) -> bool
+    requires { ⌜ (from < 800) × (2 * from + 22 ≤ length (now b)) ⌝ }
+{
+    same(b, from, &row)
+}
+
+fn rows_same(b: &[u8], from: usize, rows: Rows) -> bool
+    requires { ⌜ (from < 700) × (2 * from + 88 ≤ length (now b)) ⌝ }
+{
+    let first = rows.a;
+    let second = rows.b;
+    let third = rows.c;
+    let fourth = rows.d;
+    if !row_same(b, from, first) {
+        return false;
+    }
+    if !row_same(b, from + 11, second) {
+        return false;
+    }
+    row_same(b, from + 22, third) && row_same(b, from + 33, fourth)
+}
+
+// The core of a frame: rows, flags and the core's part of the next state.
+fn core(b: &[u8]) -> bool {
+    if b.len() < 1568 {
+        return false;
+    }
+    let lsf = ten(b, 0);
+    if spectral::first_outside(lsf) != 10 {
+        return false;
+    }
+    let r = decoder::decode(core_of(b, 182), lsf, subframes(b));
+    let rows = r.rows;
+    let places = r.run.places;
+    let next = r.run.next;
+    flags_same(b, 539, places) && rows_same(b, 543, rows) && core_same(b, 587, next)
+}
+
 // The stage of a file, by its number, on a record.
 fn agrees(stage: u32, b: &[u8]) -> bool {
     match stage {
@@ -354,6 +500,7 @@ fn agrees(stage: u32, b: &[u8]) -> bool {
         9 => gain_control(b),
         10 => both_passes(b),
         11 => postfiltered(b),
+        12 => core(b),
         _ => false,
     }
 }
@@ -432,4 +579,6 @@ fn main() {
     file(b"gain_control.bin", 9, 122);
     file(b"synthesis.bin", 10, 112);
     file(b"postfilter.bin", 11, 408);
+    file(b"frame_kept.bin", 12, 784);
+    file(b"frame_broken.bin", 12, 784);
 }
