@@ -29,14 +29,15 @@ pub sfits-sub : (v : Width) (a b : ℤ) (k l : ℕ) → mag a < k → mag b < l 
 sfits-sub v a b k l h j t = sfits-by (omega (arith, mag-out a h, mag-out b j, sub-ℤ-is a b, leb→le (k + l) (2 ^ hbits v) t))
 
 -- ---- products: the sizes multiply
-abs-neg : (n : ℕ) → natAbs (negℤ (pos n)) ≡ n
-abs-neg zero = refl
-abs-neg (suc n) = refl
+pub natAbs-neg : (z : ℤ) → natAbs (negℤ z) ≡ natAbs z
+natAbs-neg (pos zero) = refl
+natAbs-neg (pos (suc n)) = refl
+natAbs-neg (negsuc n) = refl
 
 pub natAbs-mul : (a b : ℤ) → natAbs (a *ℤ b) ≡ natAbs a * natAbs b
 natAbs-mul (pos a) (pos b) = refl
-natAbs-mul (pos a) (negsuc b) = abs-neg (a * suc b)
-natAbs-mul (negsuc a) (pos b) = abs-neg (suc a * b)
+natAbs-mul (pos a) (negsuc b) = natAbs-neg (pos (a * suc b))
+natAbs-mul (negsuc a) (pos b) = natAbs-neg (pos (suc a * b))
 natAbs-mul (negsuc a) (negsuc b) = refl
 
 pub natAbs-is : (z : ℤ) → natAbs z ≡ up z + dn z
@@ -57,6 +58,17 @@ sfits-mul v a b k l h j t =
 pub sfits-scale : (v : Width) (m : ℕ) (a b : ℤ) (k l : ℕ) → mag a < k → mag b < l → T (ltb (m * (k * l)) (2 ^ hbits v)) → SFits v (pos m *ℤ (a *ℤ b))
 sfits-scale v m a b k l h j t =
     sfits-by (omega (arith, natAbs-is (pos m *ℤ (a *ℤ b)), mul-bound (pos m) (a *ℤ b) (le-refl m) (mul-bound a b (natAbs-in a h) (natAbs-in b j)), ltb→lt (m * (k * l)) (2 ^ hbits v) t))
+
+-- ---- sums and differences: no larger than both sizes together
+abs-by : (z : ℤ) {k : ℕ} → up z ≤ k + dn z → dn z ≤ k + up z → natAbs z ≤ k
+abs-by (pos n) h l = omega arith
+abs-by (negsuc n) h l = omega arith
+
+pub natAbs-add : (a b : ℤ) → natAbs (a +ℤ b) ≤ natAbs a + natAbs b
+natAbs-add a b = abs-by (a +ℤ b) (omega (arith, add-is a b, natAbs-is a, natAbs-is b)) (omega (arith, add-is a b, natAbs-is a, natAbs-is b))
+
+pub natAbs-sub : (a b : ℤ) → natAbs (a -ℤ b) ≤ natAbs a + natAbs b
+natAbs-sub a b = abs-by (a -ℤ b) (omega (arith, sub-ℤ-is a b, natAbs-is a, natAbs-is b)) (omega (arith, sub-ℤ-is a b, natAbs-is a, natAbs-is b))
 
 -- a factor that is a numeral: the range goes up to its end
 mag-neg : (n : ℕ) {k : ℕ} → n ≤ k → 0 < k → mag (negℤ (pos n)) < k

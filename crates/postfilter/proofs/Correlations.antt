@@ -14,8 +14,8 @@ use mir.Syntax.{Width, w16, w32}
 use mir.Val.{SFits}
 use Rattle.lists.specs.Lists.{at, iter}
 use Rattle.basicop.specs.Ops.{clamp, L-add, L-mult}
-use Rattle.basicop.proofs.Ints.{up, dn, arithℤ, le-in, add-is}
-use Rattle.basicop.proofs.Range.{natAbs-mul, natAbs-is}
+use Rattle.basicop.proofs.Ints.{arithℤ, le-in}
+use Rattle.basicop.proofs.Range.{natAbs-mul, natAbs-is, natAbs-add}
 use Rattle.basicop.proofs.Shift.{asr-mono}
 use Rattle.basicop.proofs.Clamp.{clamp-pos, clamp-neg}
 use Rattle.basicop.proofs.Fits.{L-add-fits, extract-h-fits}
@@ -27,19 +27,12 @@ clamp-abs : (w : Width) (z : ℤ) → natAbs (clamp w z) ≤ natAbs z
 clamp-abs w (pos n) = rw (clamp-pos w n) (omega arith)
 clamp-abs w (negsuc n) = rw (clamp-neg w n) (omega arith)
 
-abs-in : (z : ℤ) {k : ℕ} → up z ≤ k + dn z → dn z ≤ k + up z → natAbs z ≤ k
-abs-in (pos n) h l = omega arith
-abs-in (negsuc n) h l = omega arith
-
-abs-add : (a b : ℤ) → natAbs (a +ℤ b) ≤ natAbs a + natAbs b
-abs-add a b = abs-in (a +ℤ b) (omega (arith, add-is a b, natAbs-is a, natAbs-is b)) (omega (arith, add-is a b, natAbs-is a, natAbs-is b))
-
 -- what the correlation's step gives is at most |s| + 2 |a| |b|
 lag-abs : (s a b : ℤ) → natAbs (L-add s (L-mult a b)) ≤ natAbs s + 2 * (natAbs a * natAbs b)
 unfolding L-add L-mult
 lag-abs s a b =
     let p = clamp w32 (pos 2 *ℤ (a *ℤ b)) in
-    omega (arith, clamp-abs w32 (s +ℤ p), abs-add s p, clamp-abs w32 (pos 2 *ℤ (a *ℤ b)), natAbs-mul (pos 2) (a *ℤ b), ap (λ (n : ℕ). 2 * n) (natAbs-mul a b))
+    omega (arith, clamp-abs w32 (s +ℤ p), natAbs-add s p, clamp-abs w32 (pos 2 *ℤ (a *ℤ b)), natAbs-mul (pos 2) (a *ℤ b), ap (λ (n : ℕ). 2 * n) (natAbs-mul a b))
 
 -- what the energy's step gives
 energy-next : (e : ℕ) (a : ℤ) → L-add (pos e) (L-mult a a) ≡ pos (min (e + min (2 * (natAbs a * natAbs a)) 2147483647) 2147483647)

@@ -1,4 +1,4 @@
--- Even numbers at half their size: 2 z lies outside 32 bits where z lies outside 31. Sizes of differences. Assumes nothing.
+-- Even numbers at half their size: 2 z lies outside 32 bits where z lies outside 31. Ranges of differences. Assumes nothing.
 use Prim.Native.Nat.{ℕ, _+_, _*_, _≤_}
 use mathlib.Core.Path.{_≡_, refl, sym, ap, _∙_}
 use mathlib.Core.Bool.{Bool, true, false, _||_}
@@ -9,18 +9,10 @@ use lib.Signed.{ltZ}
 use lib.IntN.{ℤ, pos, negsuc, natAbs, _+ℤ_, _-ℤ_, _*ℤ_}
 use mir.Syntax.{w64}
 use mir.Val.{SFits}
-use Rattle.basicop.proofs.Ints.{up, dn, eq-in, sfits-by, add-is, sub-ℤ-is, mul-is}
-use Rattle.basicop.proofs.Range.{natAbs-is}
+use Rattle.basicop.proofs.Ints.{eq-in, sfits-by, add-is, sub-ℤ-is, mul-is}
+use Rattle.basicop.proofs.Range.{natAbs-is, natAbs-sub}
 use Rattle.synthesis.specs.Fed.{outside}
 use Rattle.synthesis.proofs.Flags.{inside-fits, fits-inside}
-
--- a difference is no larger than both together
-pub natAbs-sub : (a b : ℤ) → natAbs (a -ℤ b) ≤ natAbs a + natAbs b
-natAbs-sub a b = go (a -ℤ b) (sub-ℤ-is a b)
-  where
-    go : (z : ℤ) → up z + (dn a + up b) ≡ dn z + (up a + dn b) → natAbs z ≤ natAbs a + natAbs b
-    go (pos n) e = omega (arith, natAbs-is a, natAbs-is b)
-    go (negsuc n) e = omega (arith, natAbs-is a, natAbs-is b)
 
 pub sub-fits : (s p : ℤ) → natAbs s ≤ 1073741824 → natAbs p ≤ 1073741824 → SFits w64 (s -ℤ p)
 sub-fits s p h j = sfits-by (omega (arith, natAbs-is (s -ℤ p), natAbs-sub s p))

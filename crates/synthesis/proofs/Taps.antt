@@ -13,13 +13,13 @@ use mir.Val.{SFits}
 use Rattle.lists.specs.Lists.{at}
 use Rattle.basicop.specs.Ops.{L-mult, L-msu}
 use Rattle.basicop.proofs.Ints.{sfits-by}
-use Rattle.basicop.proofs.Range.{natAbs-is}
+use Rattle.basicop.proofs.Range.{natAbs-is, natAbs-sub}
 use Rattle.synthesis.specs.Fed.{outside, ago, leaves}
 use Rattle.synthesis.specs.Synthesis.{acc}
 use Rattle.synthesis.specs.Whole.{product, sum, sums}
 use Rattle.synthesis.specs.Pass.{weight, Halved}
 use Rattle.synthesis.proofs.Flags.{or-right, leaves-append, leaves-one, leaves-two}
-use Rattle.synthesis.proofs.Halves.{natAbs-sub, double-sub, inside-size, small-inside}
+use Rattle.synthesis.proofs.Halves.{double-sub, inside-size, small-inside}
 
 -- y(n - k) in a buffer that has y(n) at p
 pub ago-take : (p : ℕ) (buf : List ℤ) (k : ℕ) → p ≤ length buf → 1 ≤ k → k ≤ p → at buf (p - k) ≡ ago (take p buf) k
