@@ -125,8 +125,8 @@ fn right(x: i32, n: u32) -> i32
     x >> 31
 }
 
-// -n, of a negative count n
-fn opposite(n: i16) -> u32
+// -n, of a negative number n
+pub fn opposite(n: i16) -> u32
     requires { ⌜ n <ℤ pos 0 ⌝ }
     ensures { λ r. ⌜ pos r ≡ negℤ n ⌝ }
 {

@@ -175,7 +175,7 @@ fn size(v: i16) -> u32
     ensures { λ r. ⌜ (r ≡ natAbs v) × (r ≤ 32768) ⌝ }
 {
     if v < 0 {
-        return (0 - (v as i32)) as u32;
+        return basicop::opposite(v);
     }
     v as u32
 }
