@@ -9,7 +9,7 @@ use native.Mathlib.Omega.{arith}
 use lib.ListN.{length, drop, length-append, List·getD-append}
 use lib.Seq.{getD-at, getD-drop, getD-append-add}
 use lib.IntN.{ℤ, pos}
-use Rattle.lists.specs.Lists.{at, tab, pairwise}
+use Rattle.lists.specs.Lists.{at, tab, pairwise, Every}
 
 pub at-drop : (xs : List ℤ) (k i : ℕ) → at xs (i + k) ≡ at (drop k xs) i
 at-drop xs k i = rw (getD-drop, add-comm k i)
@@ -54,6 +54,15 @@ at-pairwise f [] ys i h k = absurd (not-suc-le-zero h)
 at-pairwise f (x ∷ xs) [] i h k = absurd (not-suc-le-zero k)
 at-pairwise f (x ∷ xs) (y ∷ ys) zero h k = refl
 at-pairwise f (x ∷ xs) (y ∷ ys) (suc i) h k = at-pairwise f xs ys i (le-of-suc-le-suc h) (le-of-suc-le-suc k)
+
+-- ---- what holds of every entry
+pub every-append : {A : Type 0} (P : A → Type 0) (xs ys : List A) → Every P xs → Every P ys → Every P (xs ++ ys)
+every-append P [] ys p q = q
+every-append P (x ∷ xs) ys p q = (p .0, every-append P xs ys (p .1) q)
+
+pub every-map : {A : Type 0} {P Q : A → Type 0} → ((x : A) → P x → Q x) → (xs : List A) → Every P xs → Every Q xs
+every-map f [] p = tt
+every-map f (x ∷ xs) p = (f x (p .0), every-map f xs (p .1))
 
 -- ---- what holds of 0 and of each number that a list is made of holds of every entry, also past the end
 module _ (P : ℤ → Type 0) (none : P (pos 0)) where

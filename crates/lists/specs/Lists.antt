@@ -1,4 +1,4 @@
--- Lists of integers by their entries, and steps that are counted: what the definitions of all stages are written with.
+-- Lists of integers by their entries, and steps that are counted: what the definitions of all stages are written with. What holds of every entry of a list.
 use Prim.Native.Nat.{ℕ, zero, suc}
 use mathlib.Core.Bool.{Bool, false, cond}
 use mathlib.Core.List.{List, [], _∷_, _++_}
@@ -50,3 +50,8 @@ grow g n y = y ++ (g n y ∷ [])
 unfoldable pub firstNot : (ℤ → Bool) → List ℤ → ℕ
 firstNot p [] = 0
 firstNot p (x ∷ xs) = cond (p x) (suc (firstNot p xs)) 0
+
+-- P holds of every entry
+abbrev pub Every : {A : Type 0} → (A → Type 0) → List A → Type 0
+Every P [] = Unit {0}
+Every P (x ∷ xs) = P x × Every P xs

@@ -13,9 +13,10 @@ use lib.Seq.{getD-drop}
 use lib.Signed.{_≤ℤ_}
 use mir.Syntax.{w16}
 use mir.Val.{SFits}
-use Rattle.lists.specs.Lists.{at, iter}
-use Rattle.lists.proofs.Entries.{length-tab, each-tab, each-append}
+use Rattle.lists.specs.Lists.{at, iter, Every}
+use Rattle.lists.proofs.Entries.{length-tab, every-append, every-map, each-tab, each-append}
 use Rattle.basicop.specs.Ops.{Quotient}
+use Rattle.basicop.specs.Divided.{Divides}
 use Rattle.basicop.proofs.Ints.{≤ℤ-trans, le-in}
 use Rattle.basicop.proofs.Fits.{round-fits}
 use Rattle.lpc.specs.declared.Rows.{Rows}
@@ -25,7 +26,7 @@ use Rattle.synthesis.specs.Synthesis.{samples, newest}
 use Rattle.synthesis.proofs.Samples.{length-samples, samples-fit}
 use Rattle.energy.specs.Gain.{agc}
 use Rattle.energy.proofs.Gains.{Gain}
-use Rattle.energy.proofs.Divisors.{Every, every-append, Divisor, agc-divisors}
+use Rattle.energy.proofs.Divisors.{agc-divisors}
 use Rattle.energy.proofs.Results.{agc-length, agc-fits, gain-after-in, gain-after-forty}
 use Rattle.postfilter.specs.declared.Postfilter.{Postfilter}
 use Rattle.postfilter.specs.Weight.{numerator, denominator, weighted}
@@ -33,13 +34,10 @@ use Rattle.postfilter.specs.Residual.{residualAt, residual}
 use Rattle.postfilter.specs.Tilt.{tilt}
 use Rattle.postfilter.specs.Preemphasis.{preemphasised}
 use Rattle.postfilter.specs.Postfilter.{Processed, residualOf, resynthesised, filtered, rowAt, part, processNext, processFrom, processed}
+use Rattle.postfilter.specs.Tilted.{Framed}
 use Rattle.postfilter.proofs.Preemphases.{preemphasised-length}
-use Rattle.postfilter.proofs.Tilts.{Divides, tilted, tilt-divisors}
+use Rattle.postfilter.proofs.Tilts.{tilted}
 use Rattle.postfilter.proofs.Frames.{part-length}
-
-pub every-map : {A : Type 0} {P Q : A → Type 0} → ((x : A) → P x → Q x) → (xs : List A) → Every P xs → Every Q xs
-every-map f [] p = tt
-every-map f (x ∷ xs) p = (f x (p .0), every-map f xs (p .1))
 
 -- ---- the divisors of a subframe: those of its tilt, and those of agc, which lie in 16384..=32767
 pub divisors : (n : ℕ) → n ≤ 16384 → (m : Postfilter) (a ys : List ℤ) → Every (Divides n) (tilt a .quotients) → Every (Divides n) (filtered m a ys .quotients)
@@ -48,7 +46,7 @@ divisors n h m a ys t =
     let c = agc (m .gain .«previous_gain») ys (resynthesised m a ys) in
     every-append (Divides n) (tilt a .quotients) (c .quotients) t (every-map wide (c .quotients) (agc-divisors (m .gain .«previous_gain») ys (resynthesised m a ys)))
   where
-    wide : (q : Quotient) → Divisor q → Divides n q
+    wide : (q : Quotient) → Divides 16384 q → Divides n q
     wide q d = record { from = ≤ℤ-trans (le-in (omega arith)) (d .from); to = d .to }
 
 -- for every memory, row and samples each lies in 1..=32767; with a first coefficient of 4096 in 512..=32767
@@ -56,7 +54,7 @@ pub divisors-any : (m : Postfilter) (a ys : List ℤ) → Every (Divides 1) (fil
 divisors-any m a ys = divisors 1 (lit≤ tt) m a ys (tilted a .divisors)
 
 pub divisors-row : (m : Postfilter) (a ys : List ℤ) → at a 0 ≡ pos 4096 → Every (Divides 512) (filtered m a ys .quotients)
-divisors-row m a ys e = divisors 512 (lit≤ tt) m a ys (tilt-divisors a e)
+divisors-row m a ys e = divisors 512 (lit≤ tt) m a ys (tilted a .divisors-row e)
 
 -- the tilt is that of the row
 pub tilt-is : (m : Postfilter) (a ys : List ℤ) → filtered m a ys .tilt ≡ tilt a .value
@@ -130,12 +128,7 @@ rows-first old new =
     let r = rows-are old new in
     each-row (λ (a : List ℤ). at a 0 ≡ pos 4096) (rowsOf old new) (r .0 .first) (r .1 .0 .first) (r .1 .1 .0 .first) (r .1 .1 .1 .first)
 
--- after k subframes: as many tilts, each in 0..=26214, and every divisor from n on
-pub record Framed (n k : ℕ) (s : Processed) : Type 0 where
-  pub tilts : length (s .tilts) ≡ k
-  pub range : Every (λ (t : ℤ). (pos 0 ≤ℤ t) × (t ≤ℤ pos 26214)) (s .tilts)
-  pub divisors : Every (Divides n) (s .quotients)
-
+-- tilts and divisors after k subframes
 framed : (n : ℕ) → n ≤ 16384 → (m : Postfilter) (rows : Rows) (ys : List ℤ) → ((k : ℕ) → Every (Divides n) (tilt (rowAt rows k) .quotients)) → (k : ℕ) → Framed n k (iter (processNext rows ys) k (processFrom m))
 unfolding iter
 framed n h m rows ys d zero = record { tilts = refl; range = tt; divisors = tt }
@@ -158,7 +151,7 @@ framed-any m rows ys = framed 1 (lit≤ tt) m rows ys (λ k. tilted (rowAt rows 
 -- with rows that begin with 4096 (`rows-first`): each divisor in 512..=32767
 pub framed-rows : (m : Postfilter) (rows : Rows) (ys : List ℤ) → ((k : ℕ) → at (rowAt rows k) 0 ≡ pos 4096) → Framed 512 4 (processed m rows ys)
 unfolding processed
-framed-rows m rows ys e = framed 512 (lit≤ tt) m rows ys (λ k. tilt-divisors (rowAt rows k) (e k)) 4
+framed-rows m rows ys e = framed 512 (lit≤ tt) m rows ys (λ k. tilted (rowAt rows k) .divisors-row (e k)) 4
 
 -- the tilts are those of the four rows
 pub tilts-are : (m : Postfilter) (rows : Rows) (ys : List ℤ) → processed m rows ys .tilts ≡ tilt (rows .a) .value ∷ tilt (rows .b) .value ∷ tilt (rows .c) .value ∷ tilt (rows .d) .value ∷ []

@@ -10,19 +10,19 @@ use lib.IntN.{ℤ, pos, negsuc}
 use lib.Signed.{_≤ℤ_, _<ℤ_, leZ, leZ-yes}
 use mir.Syntax.{w16}
 use mir.Val.{SFits}
-use Rattle.lists.specs.Lists.{at}
-use Rattle.basicop.specs.Ops.{asr, mult, Quotient, div-s}
-use Rattle.basicop.specs.Divided.{Divided, undivided, divided}
+use Rattle.lists.specs.Lists.{at, Every}
+use Rattle.basicop.specs.Ops.{asr, mult, div-s}
+use Rattle.basicop.specs.Divided.{Divided, undivided, divided, Divides}
 use Rattle.basicop.proofs.Ints.{arithℤ, le-in, lt-in, <ℤ-≤ℤ}
 use Rattle.basicop.proofs.Range.{sfits-range}
 use Rattle.basicop.proofs.Shift.{asr-mono}
 use Rattle.basicop.proofs.Naturals.{mult-pos}
 use Rattle.basicop.proofs.Tests.{at-most-no}
 use Rattle.basicop.proofs.Division.{div-s-less}
-use Rattle.energy.proofs.Divisors.{Every}
 use Rattle.postfilter.proofs.Correlations.{energy-start, r1-le-r0, r0-fits}
 use Rattle.postfilter.proofs.Impulses.{response-first, response-some}
 use Rattle.postfilter.specs.Tilt.{energy, r0, r1, tiltOf, response, tilt}
+use Rattle.postfilter.specs.Tilted.{Tilted}
 
 -- ---- the division: for 0 < a ≤ b, both of sixteen bits
 module _ (a b : ℕ) (p : 0 < a) (l : a ≤ b) (t : b < 32768) where
@@ -81,18 +81,6 @@ pub tilt-asks : (h : List ℤ) → leZ (r1 h) (pos 0) ≡ false → (pos 0 ≤�
 tilt-asks h e = let r = tilt-division h (at-most-no (r1 h) (pos 0) e) in (r .from, <ℤ-≤ℤ (r .less), r .divisor)
 
 -- ---- the tilt of a row: of any list, whatever its length and its numbers
--- a divisor from n on, of 16 bits
-pub record Divides (n : ℕ) (q : Quotient) : Type 0 where
-  pub from : pos n ≤ℤ q .divisor
-  pub to : q .divisor ≤ℤ pos 32767
-
-pub record Tilted (a : List ℤ) : Type 0 where
-  pub from : pos 0 ≤ℤ tilt a .value
-  pub to : tilt a .value ≤ℤ pos 26214
-  -- where it divides: the divisor is above 0, and the numerator is not negative and below it
-  pub division : pos 0 <ℤ r1 (response a) → Ratio (mult (r1 (response a)) (pos 26214)) (r0 (response a))
-  pub divisors : Every (Divides 1) (tilt a .quotients)
-
 -- by the test, whatever is to be shown of the tilt with its quotients
 by-test : (P : Divided ℤ → Type 0) (h : List ℤ) → P (undivided (pos 0)) → (pos 0 <ℤ r1 h → P (divided (mult (r1 h) (pos 26214)) (r0 h))) → P (tiltOf h)
 unfolding tiltOf
@@ -109,17 +97,6 @@ divides : (n : ℕ) (h : List ℤ) → pos n ≤ℤ r0 h → (pos 0 <ℤ r1 h �
 unfolding div-s
 divides n h l p = (record { from = l; to = sfits-range w16 (r0 h) (r0-fits h) .1 }, tt)
 
-pub tilted : (a : List ℤ) → Tilted a
-unfolding tilt
-tilted a =
-    let h = response a in
-    record {
-      from = by-test (λ (d : Divided ℤ). pos 0 ≤ℤ d .value) h (leZ-yes tt) (λ p. tilt-division h p .quotient-from);
-      to = by-test (λ (d : Divided ℤ). d .value ≤ℤ pos 26214) h (leZ-yes tt) (λ p. tilt-division h p .quotient-to);
-      division = tilt-division h;
-      divisors = by-test (Each 1) h tt (λ p. divides 1 h (omega (arithℤ, tilt-division h p .divisor)) p);
-    }
-
 -- with a first coefficient of 4096, as every row of lpc has it, the divisor is 512 or more
 pub divisor-from : (a : List ℤ) → at a 0 ≡ pos 4096 → pos 512 ≤ℤ r0 (response a)
 unfolding asr
@@ -127,6 +104,15 @@ divisor-from a e =
     let h = response a in
     asr-mono (pos 33554432) (energy h) 16 (rw (response-first a e) at (energy-start h (response-some a)))
 
-pub tilt-divisors : (a : List ℤ) → at a 0 ≡ pos 4096 → Every (Divides 512) (tilt a .quotients)
+pub tilted : (a : List ℤ) → Tilted a
 unfolding tilt
-tilt-divisors a e = by-test (Each 512) (response a) tt (divides 512 (response a) (divisor-from a e))
+tilted a =
+    let h = response a in
+    record {
+      from = by-test (λ (d : Divided ℤ). pos 0 ≤ℤ d .value) h (leZ-yes tt) (λ p. tilt-division h p .quotient-from);
+      to = by-test (λ (d : Divided ℤ). d .value ≤ℤ pos 26214) h (leZ-yes tt) (λ p. tilt-division h p .quotient-to);
+      numerator-from = λ p. tilt-division h p .from;
+      numerator-below = λ p. tilt-division h p .less;
+      divisors = by-test (Each 1) h tt (λ p. divides 1 h (omega (arithℤ, tilt-division h p .divisor)) p);
+      divisors-row = λ e. by-test (Each 512) h tt (divides 512 h (divisor-from a e));
+    }

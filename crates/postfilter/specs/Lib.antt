@@ -3,3 +3,4 @@ pub mod Residual
 pub mod Tilt
 pub mod Preemphasis
 pub mod Postfilter
+pub mod Tilted
