@@ -1,6 +1,7 @@
 -- The basic operators of 3GPP TS 26.073 (basic_op, oper_32b), over the integers, under the standard's names with `-` for `_`.
 -- A number of 16 or 32 bits is an integer here: `pos n` is n and `negsuc n` is -(n + 1). `clamp` is the standard's saturation.
 use mathlib.Core.Bool.{Bool, true, false, cond}
+use mathlib.Core.List.{List, map}
 use Prim.Native.Nat.{ℕ, zero, suc, _-_, _*_, _%_, _^_}
 use lib.Dec.{ltb}
 use lib.IntN.{ℤ, pos, negsuc, _+ℤ_, _-ℤ_, _*ℤ_}
@@ -63,6 +64,10 @@ shl x (negsuc n) = asr x (suc n)
 abbrev pub shr : ℤ → ℤ → ℤ
 shr x (pos n) = asr x n
 shr x (negsuc n) = shl x (pos (suc n))
+
+-- each number of a list >> 2: before energy_new starts again, and where the synthesis overflows
+abbrev pub quartered : List ℤ → List ℤ
+quartered xs = map (λ (x : ℤ). shr x (pos 2)) xs
 
 -- ---- 32 bits
 unfoldable pub L-add : ℤ → ℤ → ℤ

@@ -5,7 +5,7 @@ ghost use lib.Count.{leadingZeros};
 ghost use lib.IntN.{pos, negsuc, negℤ, _*ℤ_};
 ghost use lib.Signed.{_≤ℤ_, _<ℤ_};
 ghost use mir.Syntax.{w16, w32};
-ghost use Rattle.basicop.specs.Ops.{clamp, asr, modZ, add, sub, mult, shl, shr, L-add, L-sub, L-mult, L-mac, L-msu, L-shl, L-shr, L-shr-r, extract-h, extract-l, round, L-deposit-h, norm-l, div-s, L-Extract, Mpy-32-16};
+ghost use Rattle.basicop.specs.Ops.{clamp, asr, modZ, add, sub, mult, shl, shr, quartered, L-add, L-sub, L-mult, L-mac, L-msu, L-shl, L-shr, L-shr-r, extract-h, extract-l, round, L-deposit-h, norm-l, div-s, L-Extract, Mpy-32-16};
 
 // A number that is handed on between functions has its scaling in its type: Qn is scaled by 2 ^ n.
 // Pitch gain and sharpening.
@@ -161,6 +161,17 @@ pub fn shr(x: i16, n: i16) -> i16
     ensures { λ r. ⌜ r ≡ shr x n ⌝ }
 {
     clamp16(l_shr(x as i32, n))
+}
+
+// each sample >> 2
+pub fn quarter(samples: [i16; 40]) -> [i16; 40]
+    ensures { λ r. ⌜ r ≡ quartered samples ⌝ }
+{
+    let mut r = samples;
+    for i in 0..40 {
+        r[i] = shr(samples[i], 2);
+    }
+    r
 }
 
 // The bit that is added is x >> (n - 1) less twice x >> n.

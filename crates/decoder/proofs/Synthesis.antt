@@ -7,9 +7,10 @@ use borrow.Author.Tests.{lt-ltb, le-ltb}
 use lib.Dec.{ltb}
 use lib.IntN.{ℤ}
 use lib.ListN.{length}
+use Rattle.basicop.specs.Ops.{quartered}
 use Rattle.synthesis.specs.Synthesis.{samples, overflowed, overflowedAt, previewed, filtered}
 use Rattle.synthesis.proofs.Samples.{overflowed-by-at, previewed-all}
-use Rattle.excitation.specs.Excitation.{taking, quartered}
+use Rattle.excitation.specs.Excitation.{taking}
 use Rattle.decoder.specs.declared.Synthesised.{Synthesised}
 use Rattle.decoder.specs.Subframe.{Fed, Subframe, kept, again, synthesised, told}
 

@@ -10,9 +10,10 @@ use lib.Signed.{_≤ℤ_}
 use mir.Syntax.{w16}
 use mir.Val.{SFits}
 use Rattle.lists.specs.Lists.{at}
+use Rattle.basicop.specs.Ops.{quartered}
 use Rattle.synthesis.specs.Synthesis.{samples}
 use Rattle.synthesis.specs.Whole.{wholeSamples, retried, retriedAt}
-use Rattle.excitation.specs.Excitation.{taking, quartered}
+use Rattle.excitation.specs.Excitation.{taking}
 use Rattle.decoder.specs.Subframe.{Fed, synthesised}
 
 pub record Retry (f : Fed) (history past : List ℤ) : Type 0 where

@@ -3,8 +3,9 @@ use mathlib.Core.Bool.{Bool, true, false, cond}
 use mathlib.Core.List.{List}
 use Prim.Native.Nat.{ℕ}
 use lib.IntN.{ℤ}
+use Rattle.basicop.specs.Ops.{quartered}
 use Rattle.synthesis.specs.Synthesis.{samples, overflowed, overflowedAt}
-use Rattle.excitation.specs.Excitation.{taking, quartered}
+use Rattle.excitation.specs.Excitation.{taking}
 use Rattle.decoder.specs.declared.Synthesised.{Synthesised}
 
 -- what the synthesis is fed: the row a0..a10, the feedback before any quartering, the first excitation

@@ -85,7 +85,7 @@ pub fn synthesise(
     let first = synthesis::preview(row, excitation, history);
     let place = first.place;
     if place < 40 {
-        let quarter = excitation::quarter(feedback);
+        let quarter = basicop::quarter(feedback);
         let again = synthesis::filter(row, quarter, history);
         let samples = again.samples;
         return Synthesised {

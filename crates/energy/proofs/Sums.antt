@@ -1,6 +1,6 @@
 -- energy_new: squares never fall, so that the sum clamped at each step is the exact one, held once. Assumes nothing.
 use mathlib.Core.Path.{_≡_, refl, sym, ap, _∙_}
-use mathlib.Core.List.{List, [], _∷_, map, foldl}
+use mathlib.Core.List.{List, [], _∷_, foldl}
 use Prim.Native.Nat.{ℕ, min, _+_, _*_, _≤_, _<_}
 use native.Mathlib.Nat.{mul-le-mul}
 use native.Mathlib.Omega.{arith}
@@ -9,7 +9,7 @@ use lib.Signed.{_≤ℤ_, _<ℤ_, mag}
 use mir.Syntax.{w32}
 use mir.Val.{SFits}
 use Rattle.lists.specs.Lists.{eqZ}
-use Rattle.basicop.specs.Ops.{clamp, asr, shr, L-mult, L-mac}
+use Rattle.basicop.specs.Ops.{clamp, asr, quartered, L-mult, L-mac}
 use Rattle.basicop.proofs.Ints.{arithℤ, le-in, ≤ℤ-antisym}
 use Rattle.basicop.proofs.Range.{natAbs-in}
 use Rattle.basicop.proofs.Shift.{asr-same}
@@ -69,7 +69,7 @@ pub energy-none : (xs : List ℤ) → energy xs ≤ℤ pos 0 → energy xs ≡ p
 energy-none xs h = ≤ℤ-antisym h (energy-range xs .from)
 
 -- ---- the test, as the code makes it
-pub energy-again : (xs : List ℤ) → pos 2147483646 <ℤ squares xs → squares (map (λ (x : ℤ). shr x (pos 2)) xs) ≡ energy xs
+pub energy-again : (xs : List ℤ) → pos 2147483646 <ℤ squares xs → squares (quartered xs) ≡ energy xs
 unfolding energy
 energy-again xs h =
     let e : squares xs ≡ pos 2147483647 = squares-is xs ∙ ap pos (omega (arithℤ, rw (squares-is xs) at h)) in

@@ -1,9 +1,9 @@
 -- energy_new of TS 26.073: the energy of a subframe, from its doubled squares.
 use mathlib.Core.Bool.{cond}
-use mathlib.Core.List.{List, map, foldl}
+use mathlib.Core.List.{List, foldl}
 use lib.IntN.{ℤ, pos}
 use Rattle.lists.specs.Lists.{eqZ}
-use Rattle.basicop.specs.Ops.{shr, L-mac, L-shr}
+use Rattle.basicop.specs.Ops.{quartered, L-mac, L-shr}
 
 -- L_mac over all samples from 0: the first is L_mult
 unfoldable pub squares : List ℤ → ℤ
@@ -13,4 +13,4 @@ squares xs = foldl (λ (s x : ℤ). L-mac s x x) (pos 0) xs
 unfoldable pub energy : List ℤ → ℤ
 energy xs =
     let s = squares xs in
-    cond (eqZ s (pos 2147483647)) (squares (map (λ (x : ℤ). shr x (pos 2)) xs)) (L-shr s (pos 4))
+    cond (eqZ s (pos 2147483647)) (squares (quartered xs)) (L-shr s (pos 4))

@@ -4,7 +4,7 @@ ghost use mathlib.Core.List.{map};
 ghost use Prim.Native.Nat.{_*_, _<_, _≤_};
 ghost use lib.IntN.{pos, natAbs};
 ghost use lib.Signed.{_≤ℤ_, _<ℤ_};
-ghost use Rattle.basicop.specs.Ops.{shr, L-shl, L-shr, round, norm-l, div-s};
+ghost use Rattle.basicop.specs.Ops.{L-shl, L-shr, round, norm-l, div-s};
 ghost use Rattle.energy.specs.Energy.{squares, energy};
 ghost use Rattle.energy.specs.Root.{inverseTable, rootScaled, rootIndex, rootFraction, rootBetween, inverseRoot};
 ghost use Rattle.energy.specs.Gain.{gain-out, gain-in, ratio, energyGain, scaledBy, agc2, smooth, controlled, agc};
@@ -19,8 +19,8 @@ use basicop::l_shl;
 use basicop::l_shr;
 use basicop::mult;
 use basicop::norm_l;
+use basicop::quarter;
 use basicop::round;
-use basicop::shr;
 use basicop::sub;
 
 fn doubled_square(sample: i16) -> u64
@@ -41,24 +41,13 @@ fn squares(samples: [i16; 40]) -> i32
     clamp32(sum as i64)
 }
 
-// each sample >> 2
-fn quartered(samples: [i16; 40]) -> [i16; 40]
-    ensures { λ r. ⌜ r ≡ map (λ x. shr x (pos 2)) samples ⌝ }
-{
-    let mut quarters = samples;
-    for i in 0..40 {
-        quarters[i] = shr(samples[i], 2);
-    }
-    quarters
-}
-
 // energy_new
 pub fn energy(samples: [i16; 40]) -> i32
     ensures { λ r. ⌜ r ≡ energy samples ⌝ }
 {
     let sum = squares(samples);
     if 2147483646 < sum {
-        return squares(quartered(samples));
+        return squares(quarter(samples));
     }
     sum >> 4
 }

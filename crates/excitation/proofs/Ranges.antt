@@ -13,14 +13,14 @@ use mir.Val.{SFits}
 use Rattle.lists.specs.Lists.{at, iter, grow, pairwise}
 use Rattle.lists.proofs.Entries.{length-pairwise, at-pairwise, at-map}
 use Rattle.lists.proofs.Grow.{length-grow, grow-each}
-use Rattle.basicop.specs.Ops.{asr, add, sub, shr}
+use Rattle.basicop.specs.Ops.{asr, add, sub, shr, quartered}
 use Rattle.basicop.proofs.Ints.{arithℤ}
 use Rattle.basicop.proofs.Clamp.{clamp-above}
 use Rattle.basicop.proofs.Fits.{add-fits, round-fits}
 use Rattle.basicop.proofs.Shift.{asr-mono}
 use Rattle.basicop.proofs.Range.{sfits-range}
 use Rattle.basicop.proofs.Tests.{less-no}
-use Rattle.excitation.specs.Excitation.{sharpenedAt, sharpened, sharpening, feedbackAt, feedback, taking, quartered}
+use Rattle.excitation.specs.Excitation.{sharpenedAt, sharpened, sharpening, feedbackAt, feedback, taking}
 
 -- ---- sharpening
 pub sharpened-length : (code : List ℤ) (t : ℕ) (sharp : ℤ) → length (sharpened code t sharp) ≡ 40

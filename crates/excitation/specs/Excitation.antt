@@ -1,13 +1,13 @@
 -- The excitation of a subframe: Decoder_amr of TS 26.073, good frame, MR74 (TS 26.090, 6.1).
 use mathlib.Core.Bool.{cond}
-use mathlib.Core.List.{List, [], _++_, map}
+use mathlib.Core.List.{List, [], _++_}
 use Prim.Native.Nat.{ℕ, _-_}
 use lib.Dec.{ltb}
 use lib.IntN.{ℤ, pos}
 use lib.ListN.{drop}
 use lib.Signed.{ltZ}
 use Rattle.lists.specs.Lists.{at, iter, grow, pairwise}
-use Rattle.basicop.specs.Ops.{add, sub, mult, shl, shr, L-mult, L-mac, L-shl, round}
+use Rattle.basicop.specs.Ops.{add, sub, mult, shl, L-mult, L-mac, L-shl, round}
 
 -- ---- pitch sharpening: for i from the lag t on, code[i] = add (code[i], mult (code[i - t], g)), feeding on itself, g the sharpening doubled
 abbrev pub sharpenedAt : List ℤ → ℕ → ℤ → ℕ → List ℤ → ℤ
@@ -32,7 +32,3 @@ feedback v pitch code gain = pairwise (feedbackAt pitch gain) v code
 -- it takes in a subframe, its oldest forty leaving
 abbrev pub taking : List ℤ → List ℤ → List ℤ
 taking past exc = drop 40 past ++ exc
-
--- each number >> 2: what an overflow of the synthesis does to it
-abbrev pub quartered : List ℤ → List ℤ
-quartered zs = map (λ (z : ℤ). shr z (pos 2)) zs

@@ -4,8 +4,8 @@ ghost use Prim.Native.Nat.{_<_, _≤_};
 ghost use lib.IntN.{pos};
 ghost use mathlib.Core.List.{_++_};
 ghost use lib.ListN.{take, drop};
-ghost use Rattle.basicop.specs.Ops.{add, mult};
-ghost use Rattle.excitation.specs.Excitation.{sharpened, sharpening, feedbackAt, feedback, taking, quartered};
+ghost use Rattle.basicop.specs.Ops.{add, mult, quartered};
+ghost use Rattle.excitation.specs.Excitation.{sharpened, sharpening, feedbackAt, feedback, taking};
 use basicop::Q1;
 use basicop::Q14;
 
@@ -96,16 +96,6 @@ pub fn quarter_past(past: [i16; 154]) -> [i16; 154]
     let mut r = past;
     for i in 0..154 {
         r[i] = basicop::shr(past[i], 2);
-    }
-    r
-}
-
-pub fn quarter(feedback: [i16; 40]) -> [i16; 40]
-    ensures { λ r. ⌜ r ≡ quartered feedback ⌝ }
-{
-    let mut r = feedback;
-    for i in 0..40 {
-        r[i] = basicop::shr(feedback[i], 2);
     }
     r
 }

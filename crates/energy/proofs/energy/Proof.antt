@@ -13,7 +13,7 @@ returns : tie.Need-returns
 returns c =
     let q = c .before in
     let s = q .before .before in
-    got w32 (c .squares2 .ok) (c .squares2 .ensures ∙ ap squares (q .quartered .ensures))
+    got w32 (c .squares2 .ok) (c .squares2 .ensures ∙ ap squares (q .quarter .ensures))
     ∙ energy-again (s .before .args .samples) (less-yes (rw (got w32 (s .squares .ok) (s .squares .ensures)) at (q .before .if1 .taken)))
 
 returns-2 : tie.Need-returns-2

@@ -7,8 +7,7 @@ use mir.Syntax.{w16}
 use Rattle.lists.proofs.Signed.{back, got}
 use Rattle.lists.proofs.Entries.{at-map}
 use Rattle.lists.proofs.Fill.{Filled, fill-none, fill-more, fill-whole}
-use Rattle.basicop.specs.Ops.{shr}
-use Rattle.excitation.specs.Excitation.{quartered}
+use Rattle.basicop.specs.Ops.{shr, quartered}
 use Rattle.excitation.proofs.quarter_past.Statement.{statement}
 use Rattle.excitation.proofs.quarter_past.Tie as tie
 

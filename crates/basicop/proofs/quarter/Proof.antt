@@ -1,4 +1,4 @@
-use mathlib.Core.Path.{_≡_, ap, _∙_}
+use mathlib.Core.Path.{ap, _∙_}
 use Prim.Native.Nat.{_≤_, _-_}
 use borrow.Author.Needs.{needs}
 use lib.IntN.{ℤ, pos}
@@ -7,10 +7,9 @@ use mir.Syntax.{w16}
 use Rattle.lists.proofs.Signed.{back, got}
 use Rattle.lists.proofs.Entries.{at-map}
 use Rattle.lists.proofs.Fill.{Filled, fill-none, fill-more, fill-whole}
-use Rattle.basicop.specs.Ops.{shr}
-use Rattle.excitation.specs.Excitation.{quartered}
-use Rattle.excitation.proofs.quarter.Statement.{statement}
-use Rattle.excitation.proofs.quarter.Tie as tie
+use Rattle.basicop.specs.Ops.{shr, quartered}
+use Rattle.basicop.proofs.quarter.Statement.{statement}
+use Rattle.basicop.proofs.quarter.Tie as tie
 
 abbrev down : ℤ → ℤ
 down z = shr z (pos 2)
