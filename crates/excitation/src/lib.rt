@@ -78,7 +78,7 @@ fn joined(past: [i16; 154], feedback: [i16; 40]) -> [i16; 154]
 {
     let mut r = past;
     for i in 0..40 {
-        r[i + 114] = feedback[i];
+        r[114 + i] = feedback[i];
     }
     r
 }
