@@ -1,0 +1,122 @@
+-- A state as 197 numbers: they are as many, each of 16 bits, and the state of them is the state. Assumes nothing.
+use mathlib.Core.Path.{_≡_, refl, sym, ap, _∙_}
+use mathlib.Core.List.{List, [], _∷_, _++_, append-assoc}
+use Prim.Native.Nat.{ℕ, zero, suc, _+_}
+use native.Mathlib.Omega.{arith}
+use lib.Dec.{lit<}
+use lib.IntN.{ℤ, pos}
+use lib.ListN.{length, take, drop, length-append}
+use lib.Seq.{take-at, drop-at, getD-append-add}
+use mir.Syntax.{w16}
+use mir.Val.{SFits}
+use Rattle.lists.specs.Lists.{at}
+use Rattle.lists.proofs.Entries.{each-append}
+use Rattle.basicop.specs.Words.{Words}
+use Rattle.state.specs.declared.State.{State}
+use Rattle.state.specs.State.{WellFormed, numbersOf, stateOf}
+
+-- ---- the parts of a list that is put together from parts
+part-at : (xs p b q : List ℤ) (k n : ℕ) → xs ≡ p ++ (b ++ q) → length p ≡ k → length b ≡ n → take n (drop k xs) ≡ b
+part-at xs p b q k n e hk hn = ap (λ (l : List ℤ). take n (drop k l)) e ∙ ap (take n) (drop-at p (b ++ q) k hk) ∙ take-at b q n hn
+
+number-at : (xs p q : List ℤ) (k i : ℕ) → xs ≡ p ++ q → length p ≡ k → at xs (k + i) ≡ at q i
+number-at xs p q k i e hk = ap (λ (l : List ℤ). at l (k + i)) e ∙ ap (λ (m : ℕ). at (p ++ q) (m + i)) (sym hk) ∙ getD-append-add p q i (pos 0)
+
+none : SFits w16 (pos 0)
+none = record { sfits = lit< tt }
+
+one : (x : ℤ) → SFits w16 x → (i : ℕ) → SFits w16 (at (x ∷ []) i)
+one x h zero = h
+one x h (suc i) = none
+
+module _ (s : State) (w : WellFormed s) where
+  abbrev p₁ : List ℤ
+  p₁ = s .core .lsp ++ s .core .past
+
+  abbrev p₂ : List ℤ
+  p₂ = p₁ ++ (s .core .sharpening .0 ∷ [])
+
+  abbrev p₃ : List ℤ
+  p₃ = p₂ ++ s .core .history
+
+  abbrev p₄ : List ℤ
+  p₄ = p₃ ++ s .post .«input_history»
+
+  abbrev p₅ : List ℤ
+  p₅ = p₄ ++ s .post .«synthesis_history»
+
+  k₁ : length p₁ ≡ 164
+  k₁ = omega (arith, length-append (s .core .lsp) (s .core .past), w .lsp .count, w .past .count)
+
+  k₂ : length p₂ ≡ 165
+  k₂ = omega (arith, length-append p₁ (s .core .sharpening .0 ∷ []), k₁)
+
+  k₃ : length p₃ ≡ 175
+  k₃ = omega (arith, length-append p₂ (s .core .history), k₂, w .history .count)
+
+  k₄ : length p₄ ≡ 185
+  k₄ = omega (arith, length-append p₃ (s .post .«input_history»), k₃, w .input-history .count)
+
+  k₅ : length p₅ ≡ 195
+  k₅ = omega (arith, length-append p₄ (s .post .«synthesis_history»), k₄, w .synthesis-history .count)
+
+  abbrev ends : List ℤ
+  ends = s .post .«previous_residual» ∷ s .post .gain .«previous_gain» ∷ []
+
+  -- the numbers, as each part is found among them
+  n₁ : numbersOf s ≡ p₁ ++ (s .core .sharpening .0 ∷ s .core .history ++ (s .post .«input_history» ++ (s .post .«synthesis_history» ++ ends)))
+  unfolding numbersOf
+  n₁ = sym (append-assoc (s .core .lsp) (s .core .past) _)
+
+  n₂ : numbersOf s ≡ p₂ ++ (s .core .history ++ (s .post .«input_history» ++ (s .post .«synthesis_history» ++ ends)))
+  n₂ = n₁ ∙ sym (append-assoc p₁ (s .core .sharpening .0 ∷ []) _)
+
+  n₃ : numbersOf s ≡ p₃ ++ (s .post .«input_history» ++ (s .post .«synthesis_history» ++ ends))
+  n₃ = n₂ ∙ sym (append-assoc p₂ (s .core .history) _)
+
+  n₄ : numbersOf s ≡ p₄ ++ (s .post .«synthesis_history» ++ ends)
+  n₄ = n₃ ∙ sym (append-assoc p₃ (s .post .«input_history») _)
+
+  n₅ : numbersOf s ≡ p₅ ++ ends
+  n₅ = n₄ ∙ sym (append-assoc p₄ (s .post .«synthesis_history») _)
+
+  n₀ : numbersOf s ≡ s .core .lsp ++ (s .core .past ++ (s .core .sharpening .0 ∷ s .core .history ++ (s .post .«input_history» ++ (s .post .«synthesis_history» ++ ends))))
+  unfolding numbersOf
+  n₀ = refl
+
+  pub state-of-numbers : stateOf (numbersOf s) ≡ s
+  unfolding stateOf
+  state-of-numbers =
+      let xs = numbersOf s in
+      λ i. record {
+        core = record {
+          lsp = part-at xs [] (s .core .lsp) _ 0 10 n₀ refl (w .lsp .count) i;
+          past = part-at xs (s .core .lsp) (s .core .past) _ 10 154 n₀ (w .lsp .count) (w .past .count) i;
+          sharpening = record { 0 = number-at xs p₁ _ 164 0 n₁ k₁ i };
+          history = part-at xs p₂ (s .core .history) _ 165 10 n₂ k₂ (w .history .count) i;
+        };
+        post = record {
+          «input_history» = part-at xs p₃ (s .post .«input_history») _ 175 10 n₃ k₃ (w .input-history .count) i;
+          «synthesis_history» = part-at xs p₄ (s .post .«synthesis_history») ends 185 10 n₄ k₄ (w .synthesis-history .count) i;
+          «previous_residual» = number-at xs p₅ ends 195 0 n₅ k₅ i;
+          gain = record { «previous_gain» = number-at xs p₅ ends 195 1 n₅ k₅ i };
+        };
+      }
+
+  abbrev Fit : List ℤ → Type 0
+  Fit xs = (i : ℕ) → SFits w16 (at xs i)
+
+  joined : (xs ys : List ℤ) → Fit xs → Fit ys → Fit (xs ++ ys)
+  joined xs ys f g = each-append (SFits w16) none xs ys f g
+
+  pub numbers-words : Words 197 (numbersOf s)
+  numbers-words =
+      let f₁ = joined (s .core .lsp) (s .core .past) (w .lsp .fit) (w .past .fit) in
+      let f₂ = joined p₁ (s .core .sharpening .0 ∷ []) f₁ (one (s .core .sharpening .0) (w .sharpening)) in
+      let f₃ = joined p₂ (s .core .history) f₂ (w .history .fit) in
+      let f₄ = joined p₃ (s .post .«input_history») f₃ (w .input-history .fit) in
+      let f₅ = joined p₄ (s .post .«synthesis_history») f₄ (w .synthesis-history .fit) in
+      record {
+        count = ap length n₅ ∙ length-append p₅ ends ∙ omega (arith, k₅);
+        fit = rw n₅ (joined p₅ ends f₅ (joined (s .post .«previous_residual» ∷ []) (s .post .gain .«previous_gain» ∷ []) (one (s .post .«previous_residual») (w .previous-residual)) (one (s .post .gain .«previous_gain») (w .previous-gain))));
+      }

@@ -1,0 +1,13 @@
+use borrow.Author.Needs.{needs}
+use borrow.Author.Tests.{eq-eqb, ne-eqb}
+use mathlib.Core.Path.{_≡_, ap, _∙_}
+use Prim.Native.Nat.{ℕ}
+use lib.Dec.{eqb}
+use Rattle.state.proofs.Outcome.accepted.Statement.{statement}
+use Rattle.state.proofs.Outcome.accepted.Tie as tie
+
+returns : tie.Need-returns
+returns c = ap (λ (n : ℕ). eqb n 0) (c .number .ensures)
+
+pub accepted-spec : {M : Type 1} → statement M
+accepted-spec = tie.close (tie.spec (λ c κs. search needs) returns)
