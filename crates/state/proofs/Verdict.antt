@@ -10,28 +10,25 @@ use Rattle.state.specs.declared.State.{State}
 use Rattle.state.specs.declared.Outcome.{Outcome}
 use Rattle.state.specs.declared.Outcome.the-variants.{Accepted, Sharpening, SmoothedGain}
 use Rattle.state.specs.Outcome.{Row, row, firstMet, isAccepted}
-use Rattle.state.specs.State.{stateVerdict}
+use Rattle.state.specs.State.{stateRows}
 
 -- ---- rows 16 and 17
-module _ (s : State) where
-  abbrev sharp : ℤ
-  sharp = s .core .sharpening .0
+module _ (sharp smooth : ℤ) where
+  abbrev told : Outcome
+  told = firstMet (stateRows sharp smooth)
 
-  abbrev smooth : ℤ
-  smooth = s .post .gain .«previous_gain»
-
-  pub sharp-below : ltZ sharp (pos 0) ≡ true → Sharpening ≡ stateVerdict s
-  unfolding stateVerdict firstMet
+  pub sharp-below : ltZ sharp (pos 0) ≡ true → Sharpening ≡ told
+  unfolding firstMet
   sharp-below e = rw e
 
-  pub sharp-above : ltZ sharp (pos 0) ≡ false → ltZ (pos 13017) sharp ≡ true → Sharpening ≡ stateVerdict s
-  unfolding stateVerdict firstMet
+  pub sharp-above : ltZ sharp (pos 0) ≡ false → ltZ (pos 13017) sharp ≡ true → Sharpening ≡ told
+  unfolding firstMet
   sharp-above e f = rw (e, f)
 
-  pub smooth-below : ltZ sharp (pos 0) ≡ false → ltZ (pos 13017) sharp ≡ false → ltZ smooth (pos 0) ≡ true → SmoothedGain ≡ stateVerdict s
-  unfolding stateVerdict firstMet
+  pub smooth-below : ltZ sharp (pos 0) ≡ false → ltZ (pos 13017) sharp ≡ false → ltZ smooth (pos 0) ≡ true → SmoothedGain ≡ told
+  unfolding firstMet
   smooth-below e f g = rw (e, f, g)
 
-  pub state-passes : ltZ sharp (pos 0) ≡ false → ltZ (pos 13017) sharp ≡ false → ltZ smooth (pos 0) ≡ false → Accepted ≡ stateVerdict s
-  unfolding stateVerdict firstMet
+  pub state-passes : ltZ sharp (pos 0) ≡ false → ltZ (pos 13017) sharp ≡ false → ltZ smooth (pos 0) ≡ false → Accepted ≡ told
+  unfolding firstMet
   state-passes e f g = rw (e, f, g)

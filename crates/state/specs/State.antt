@@ -26,13 +26,11 @@ pub record WellFormed (s : State) : Type 0 where
   pub previous-gain : SFits w16 (s .post .gain .«previous_gain»)
 
 -- 16: sharpening outside 0..=13017; 17: smoothed gain negative
-abbrev pub stateRows : State → List Row
-stateRows s =
-    row (ltZ (s .core .sharpening .0) (pos 0) || ltZ (pos 13017) (s .core .sharpening .0)) Sharpening ∷
-    row (ltZ (s .post .gain .«previous_gain») (pos 0)) SmoothedGain ∷ []
+abbrev pub stateRows : ℤ → ℤ → List Row
+stateRows sharpening gain = row (ltZ sharpening (pos 0) || ltZ (pos 13017) sharpening) Sharpening ∷ row (ltZ gain (pos 0)) SmoothedGain ∷ []
 
 unfoldable pub stateVerdict : State → Outcome
-stateVerdict s = firstMet (stateRows s)
+stateVerdict s = firstMet (stateRows (s .core .sharpening .0) (s .post .gain .«previous_gain»))
 
 -- ---- as 197 numbers
 -- the body of a record: 0..9 previous LSP, 10..163 past excitation, 164 sharpening, 165..174 synthesis history,

@@ -1,8 +1,10 @@
 // The state that is carried between frames, and what turns a call back.
 ghost use mathlib.Core.Path.{_≡_};
-ghost use Rattle.state.specs.Outcome.{numberOf, placeOf, isAccepted};
-ghost use Rattle.state.specs.State.{stateVerdict};
+ghost use Rattle.state.specs.Outcome.{numberOf, placeOf, isAccepted, firstMet};
+ghost use Rattle.state.specs.State.{stateRows, stateVerdict};
+use basicop::Q14;
 use decoder::Core;
+use energy::GainControl;
 use postfilter::Postfilter;
 
 // 197 numbers in the record's order: the core's (fields 0 to 174) and the postfilter's (175 to 196).
@@ -89,22 +91,29 @@ impl Outcome {
     }
 }
 
+// Rows 16 and 17, of the two numbers that they test.
+pub fn validate_numbers(sharpening: Q14, gain: GainControl) -> Outcome
+    ensures { λ r. ⌜ r ≡ firstMet (stateRows (sharpening .0) (gain .«previous_gain»)) ⌝ }
+{
+    let sharp = sharpening.0;
+    let smooth = gain.previous_gain;
+    if sharp < 0 {
+        return Outcome::Sharpening;
+    }
+    if 13017 < sharp {
+        return Outcome::Sharpening;
+    }
+    if smooth < 0 {
+        return Outcome::SmoothedGain;
+    }
+    Outcome::Accepted
+}
+
 // Rows 16 and 17, which frame call, reader and writer share.
 pub fn validate(state: State) -> Outcome
     ensures { λ r. ⌜ r ≡ stateVerdict state ⌝ }
 {
     let core = state.core;
-    let sharpening = core.sharpening.0;
-    if sharpening < 0 {
-        return Outcome::Sharpening;
-    }
-    if 13017 < sharpening {
-        return Outcome::Sharpening;
-    }
     let post = state.post;
-    let gain = post.gain.previous_gain;
-    if gain < 0 {
-        return Outcome::SmoothedGain;
-    }
-    Outcome::Accepted
+    validate_numbers(core.sharpening, post.gain)
 }
