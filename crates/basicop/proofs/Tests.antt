@@ -1,6 +1,6 @@
--- A test of two signed numbers, as a branch leaves it, is a fact of their order. Assumes nothing.
+-- A test of two signed numbers, as a branch leaves it, is a fact of their order; two tests. Assumes nothing.
 use mathlib.Core.Path.{_≡_, refl, subst}
-use mathlib.Core.Bool.{true, false}
+use mathlib.Core.Bool.{Bool, true, false, _||_}
 use borrow.Author.Tests.{leb-false, lt-ltb, le-ltb}
 use Prim.Native.Nat.{ℕ, _<_}
 use lib.Dec.{T, lt→ltb, ltb→lt, leb→le}
@@ -45,3 +45,12 @@ module _ (w : Width) (n : ℤ) (f : SFits w n) where
 
   pub from-zero : ltZ (toZ w (ofZ w n)) (pos 0) ≡ false → pos 0 ≤ℤ n
   from-zero e = less-no (rw (toZ-ofZ f) at e)
+
+-- ---- neither of two tests
+pub or-left : (b c : Bool) → (b || c) ≡ false → b ≡ false
+or-left true c e = e
+or-left false c e = refl
+
+pub or-right : (b c : Bool) → (b || c) ≡ false → c ≡ false
+or-right true c e = cc
+or-right false c e = e

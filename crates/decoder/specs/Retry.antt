@@ -3,9 +3,8 @@
 use mathlib.Core.Path.{_≡_}
 use mathlib.Core.Bool.{true, false}
 use mathlib.Core.List.{List}
-use Prim.Native.Nat.{ℕ, _<_}
+use Prim.Native.Nat.{ℕ}
 use lib.IntN.{ℤ, pos, negsuc}
-use lib.ListN.{length}
 use lib.Signed.{_≤ℤ_}
 use mir.Syntax.{w16}
 use mir.Val.{SFits}

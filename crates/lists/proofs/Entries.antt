@@ -6,7 +6,7 @@ use mathlib.Core.Logic.{⊎-elim}
 use native.Mathlib.Numerals.{add-one}
 use native.Mathlib.Nat.{add-comm, not-suc-le-zero, le-of-suc-le-suc, eq-or-lt-of-le}
 use native.Mathlib.Omega.{arith}
-use lib.ListN.{length, drop, length-append, List·getD-append}
+use lib.ListN.{length, take, drop, length-append, List·getD-append}
 use lib.Seq.{getD-at, getD-drop, getD-append-add}
 use lib.IntN.{ℤ, pos}
 use Rattle.lists.specs.Lists.{at, tab, pairwise, Every}
@@ -64,6 +64,10 @@ pub every-map : {A : Type 0} {P Q : A → Type 0} → ((x : A) → P x → Q x) 
 every-map f [] p = tt
 every-map f (x ∷ xs) p = (f x (p .0), every-map f xs (p .1))
 
+pub every-at : (P : ℤ → Type 0) (xs : List ℤ) → ((i : ℕ) → P (at xs i)) → Every P xs
+every-at P [] p = tt
+every-at P (x ∷ xs) p = (p 0, every-at P xs (λ i. p (suc i)))
+
 -- ---- what holds of 0 and of each number that a list is made of holds of every entry, also past the end
 module _ (P : ℤ → Type 0) (none : P (pos 0)) where
   pub each-append : (xs ys : List ℤ) → ((i : ℕ) → P (at xs i)) → ((i : ℕ) → P (at ys i)) → (i : ℕ) → P (at (xs ++ ys) i)
@@ -79,6 +83,23 @@ module _ (P : ℤ → Type 0) (none : P (pos 0)) where
       last : (i : ℕ) → P (at (f n ∷ []) i)
       last zero = p n
       last (suc i) = none
+
+  pub each-take : (n : ℕ) (xs : List ℤ) → ((i : ℕ) → P (at xs i)) → (i : ℕ) → P (at (take n xs) i)
+  each-take zero xs p i = none
+  each-take (suc n) [] p i = none
+  each-take (suc n) (x ∷ xs) p zero = p zero
+  each-take (suc n) (x ∷ xs) p (suc i) = each-take n xs (λ j. p (suc j)) i
+
+  pub each-map : (f : ℤ → ℤ) → ((x : ℤ) → P (f x)) → (xs : List ℤ) (i : ℕ) → P (at (map f xs) i)
+  each-map f p [] i = none
+  each-map f p (x ∷ xs) zero = p x
+  each-map f p (x ∷ xs) (suc i) = each-map f p xs i
+
+  pub each-pairwise : (f : ℤ → ℤ → ℤ) → ((x y : ℤ) → P (f x y)) → (xs ys : List ℤ) (i : ℕ) → P (at (pairwise f xs ys) i)
+  each-pairwise f p [] ys i = none
+  each-pairwise f p (x ∷ xs) [] i = none
+  each-pairwise f p (x ∷ xs) (y ∷ ys) zero = p x y
+  each-pairwise f p (x ∷ xs) (y ∷ ys) (suc i) = each-pairwise f p xs ys i
 
 pub each-drop : (P : ℤ → Type 0) → P (pos 0) → (n : ℕ) (zs : List ℤ) → ((i : ℕ) → P (at zs i)) → (i : ℕ) → P (at (drop n zs) i)
 each-drop P o zero zs f i = f i

@@ -1,29 +1,30 @@
 -- What a subframe and a frame of the postfilter give: tilts and divisors, whatever comes; lengths and ranges, where the memory and the samples have theirs.
 -- Assumes nothing.
-use Prim.Native.Nat.{ℕ, zero, suc, _+_, _*_, _-_, _<_, _≤_}
+use Prim.Native.Nat.{ℕ, zero, suc, _+_, _*_, _<_, _≤_}
 use mathlib.Core.Path.{_≡_, refl, _∙_}
 use mathlib.Core.List.{List, [], _∷_, _++_}
 use native.Mathlib.Numerals.{add-one}
-use native.Mathlib.Nat.{not-suc-le-zero}
+use native.Mathlib.Nat.{not-suc-le-zero, mul-suc}
 use native.Mathlib.Omega.{arith}
-use lib.Dec.{lit<, lit≤}
+use lib.Dec.{lit≤}
 use lib.IntN.{ℤ, pos}
-use lib.ListN.{length, take, drop, length-append, length-drop}
-use lib.Seq.{getD-drop}
+use lib.ListN.{length, drop, length-append}
 use lib.Signed.{_≤ℤ_}
 use mir.Syntax.{w16}
 use mir.Val.{SFits}
 use Rattle.lists.specs.Lists.{at, iter, Every}
-use Rattle.lists.proofs.Entries.{length-tab, every-append, every-map, each-tab, each-append}
+use Rattle.lists.proofs.Entries.{every-append, every-map}
 use Rattle.basicop.specs.Ops.{Quotient}
+use Rattle.basicop.specs.Words.{Words}
 use Rattle.basicop.specs.Divided.{Divides}
 use Rattle.basicop.proofs.Ints.{≤ℤ-trans, le-in}
 use Rattle.basicop.proofs.Fits.{round-fits}
+use Rattle.basicop.proofs.Words.{zero-fits, words-append, words-drop, words-take, words-tab}
 use Rattle.lpc.specs.declared.Rows.{Rows}
 use Rattle.lpc.specs.Rows.{rowsOf}
 use Rattle.lpc.proofs.Coefficients.{rows-are}
-use Rattle.synthesis.specs.Synthesis.{samples, newest}
-use Rattle.synthesis.proofs.Samples.{length-samples, samples-fit}
+use Rattle.synthesis.specs.Synthesis.{samples}
+use Rattle.synthesis.proofs.Samples.{length-samples, samples-fit, newest-words}
 use Rattle.energy.specs.Gain.{agc}
 use Rattle.energy.proofs.Gains.{Gain}
 use Rattle.energy.proofs.Divisors.{agc-divisors}
@@ -37,7 +38,6 @@ use Rattle.postfilter.specs.Postfilter.{Processed, residualOf, resynthes
 use Rattle.postfilter.specs.Tilted.{Framed}
 use Rattle.postfilter.proofs.Preemphases.{preemphasised-length}
 use Rattle.postfilter.proofs.Tilts.{tilted}
-use Rattle.postfilter.proofs.Frames.{part-length}
 
 -- ---- the divisors of a subframe: those of its tilt, and those of agc, which lie in 16384..=32767
 pub divisors : (n : ℕ) → n ≤ 16384 → (m : Postfilter) (a ys : List ℤ) → Every (Divides n) (tilt a .quotients) → Every (Divides n) (filtered m a ys .quotients)
@@ -62,11 +62,6 @@ unfolding filtered
 tilt-is m a ys = refl
 
 -- ---- lengths and ranges
--- n numbers of 16 bits
-pub record Words (n : ℕ) (xs : List ℤ) : Type 0 where
-  pub count : length xs ≡ n
-  pub fit : (i : ℕ) → SFits w16 (at xs i)
-
 -- the memory: twice ten numbers, the last residual, and a gain in 0..=32767
 pub record Held (m : Postfilter) : Type 0 where
   pub inputs : Words 10 (m .«input_history»)
@@ -80,19 +75,9 @@ pub record Kept (m : Postfilter) (a ys : List ℤ) : Type 0 where
   pub memory : Held (filtered m a ys .output .memory)
   pub gain : filtered m a ys .output .memory .gain .«previous_gain» ≤ℤ pos 32748
 
-none : SFits w16 (pos 0)
-none = record { sfits = lit< tt }
-
 residual-words : (a x : List ℤ) → Words 40 (residual a x)
 unfolding residual
-residual-words a x = record { count = length-tab _ 40; fit = each-tab (SFits w16) none (λ (n : ℕ). residualAt a x (n + 10)) 40 (λ k. round-fits _) }
-
-newest-words : (xs : List ℤ) → Words 40 xs → Words 10 (newest 10 xs)
-newest-words xs w =
-    record {
-      count = length-drop (length xs - 10) xs ∙ rw (w .count);
-      fit = λ i. rw (getD-drop (length xs - 10) xs i (pos 0)) (w .fit (length xs - 10 + i));
-    }
+residual-words a x = words-tab (λ (n : ℕ). residualAt a x (n + 10)) 40 (λ k. round-fits _)
 
 pub kept : (m : Postfilter) (a ys : List ℤ) → Held m → Words 40 ys → Kept m a ys
 unfolding filtered
@@ -165,21 +150,11 @@ pub record Carried (k : ℕ) (s : Processed) : Type 0 where
   pub gain : 1 ≤ k → s .output .memory .gain .«previous_gain» ≤ℤ pos 32748
 
 part-words : (ys : List ℤ) (k : ℕ) → k < 4 → Words 160 ys → Words 40 (part ys k)
-part-words ys k h w =
-    record {
-      count = part-length ys k (w .count) h;
-      fit = each-take 40 (drop (40 * k) ys) (λ i. rw (getD-drop (40 * k) ys i (pos 0)) (w .fit (40 * k + i)));
-    }
-  where
-    each-take : (n : ℕ) (xs : List ℤ) → ((i : ℕ) → SFits w16 (at xs i)) → (i : ℕ) → SFits w16 (at (take n xs) i)
-    each-take zero xs f i = none
-    each-take (suc n) [] f i = none
-    each-take (suc n) (x ∷ xs) f zero = f zero
-    each-take (suc n) (x ∷ xs) f (suc i) = each-take n xs (λ j. f (suc j)) i
+part-words ys k h w = words-take 40 (drop (40 * k) ys) (omega arith) (words-drop (40 * k) ys w)
 
 carried : (m : Postfilter) (rows : Rows) (ys : List ℤ) → Held m → Words 160 ys → (k : ℕ) → k ≤ 4 → Carried k (iter (processNext rows ys) k (processFrom m))
 unfolding iter
-carried m rows ys h w zero l = record { samples = record { count = refl; fit = λ i. none }; memory = h; gain = λ p. absurd (not-suc-le-zero p) }
+carried m rows ys h w zero l = record { samples = record { count = refl; fit = λ i. zero-fits }; memory = h; gain = λ p. absurd (not-suc-le-zero p) }
 carried m rows ys h w (suc k) l =
     let s = iter (processNext rows ys) k (processFrom m) in
     let r = carried m rows ys h w k (omega arith) in
@@ -187,10 +162,7 @@ carried m rows ys h w (suc k) l =
     let f = filtered (s .output .memory) a (part ys k) in
     let q = kept (s .output .memory) a (part ys k) (r .memory) (part-words ys k l w) in
     record {
-      samples = record {
-        count = length-append (s .output .samples) (f .output .samples) ∙ rw (r .samples .count, q .forty .count) (omega arith);
-        fit = each-append (SFits w16) none (s .output .samples) (f .output .samples) (r .samples .fit) (q .forty .fit);
-      };
+      samples = rw (mul-suc 40 k) (words-append (s .output .samples) (f .output .samples) (r .samples) (q .forty));
       memory = q .memory;
       gain = λ p. q .gain;
     }

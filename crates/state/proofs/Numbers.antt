@@ -1,17 +1,14 @@
 -- A state as 197 numbers: they are as many, each of 16 bits, and the state of them is the state. Assumes nothing.
 use mathlib.Core.Path.{_≡_, refl, sym, ap, _∙_}
 use mathlib.Core.List.{List, [], _∷_, _++_, append-assoc}
-use Prim.Native.Nat.{ℕ, zero, suc, _+_}
+use Prim.Native.Nat.{ℕ, _+_}
 use native.Mathlib.Omega.{arith}
-use lib.Dec.{lit<}
 use lib.IntN.{ℤ, pos}
 use lib.ListN.{length, take, drop, length-append}
 use lib.Seq.{take-at, drop-at, getD-append-add}
-use mir.Syntax.{w16}
-use mir.Val.{SFits}
 use Rattle.lists.specs.Lists.{at}
-use Rattle.lists.proofs.Entries.{each-append}
 use Rattle.basicop.specs.Words.{Words}
+use Rattle.basicop.proofs.Words.{words-one, words-append}
 use Rattle.state.specs.declared.State.{State}
 use Rattle.state.specs.State.{WellFormed, numbersOf, stateOf}
 
@@ -21,13 +18,6 @@ part-at xs p b q k n e hk hn = ap (λ (l : List ℤ). take n (drop k l)) e ∙ a
 
 number-at : (xs p q : List ℤ) (k i : ℕ) → xs ≡ p ++ q → length p ≡ k → at xs (k + i) ≡ at q i
 number-at xs p q k i e hk = ap (λ (l : List ℤ). at l (k + i)) e ∙ ap (λ (m : ℕ). at (p ++ q) (m + i)) (sym hk) ∙ getD-append-add p q i (pos 0)
-
-none : SFits w16 (pos 0)
-none = record { sfits = lit< tt }
-
-one : (x : ℤ) → SFits w16 x → (i : ℕ) → SFits w16 (at (x ∷ []) i)
-one x h zero = h
-one x h (suc i) = none
 
 module _ (s : State) (w : WellFormed s) where
   abbrev p₁ : List ℤ
@@ -103,20 +93,12 @@ module _ (s : State) (w : WellFormed s) where
         };
       }
 
-  abbrev Fit : List ℤ → Type 0
-  Fit xs = (i : ℕ) → SFits w16 (at xs i)
-
-  joined : (xs ys : List ℤ) → Fit xs → Fit ys → Fit (xs ++ ys)
-  joined xs ys f g = each-append (SFits w16) none xs ys f g
-
   pub numbers-words : Words 197 (numbersOf s)
   numbers-words =
-      let f₁ = joined (s .core .lsp) (s .core .past) (w .lsp .fit) (w .past .fit) in
-      let f₂ = joined p₁ (s .core .sharpening .0 ∷ []) f₁ (one (s .core .sharpening .0) (w .sharpening)) in
-      let f₃ = joined p₂ (s .core .history) f₂ (w .history .fit) in
-      let f₄ = joined p₃ (s .post .«input_history») f₃ (w .input-history .fit) in
-      let f₅ = joined p₄ (s .post .«synthesis_history») f₄ (w .synthesis-history .fit) in
-      record {
-        count = ap length n₅ ∙ length-append p₅ ends ∙ omega (arith, k₅);
-        fit = rw n₅ (joined p₅ ends f₅ (joined (s .post .«previous_residual» ∷ []) (s .post .gain .«previous_gain» ∷ []) (one (s .post .«previous_residual») (w .previous-residual)) (one (s .post .gain .«previous_gain») (w .previous-gain))));
-      }
+      let w₁ = words-append (s .core .lsp) (s .core .past) (w .lsp) (w .past) in
+      let w₂ = words-append p₁ (s .core .sharpening .0 ∷ []) w₁ (words-one (s .core .sharpening .0) (w .sharpening)) in
+      let w₃ = words-append p₂ (s .core .history) w₂ (w .history) in
+      let w₄ = words-append p₃ (s .post .«input_history») w₃ (w .input-history) in
+      let w₅ = words-append p₄ (s .post .«synthesis_history») w₄ (w .synthesis-history) in
+      let e = words-append (s .post .«previous_residual» ∷ []) (s .post .gain .«previous_gain» ∷ []) (words-one (s .post .«previous_residual») (w .previous-residual)) (words-one (s .post .gain .«previous_gain») (w .previous-gain)) in
+      rw n₅ (words-append p₅ ends w₅ e)

@@ -11,7 +11,8 @@ use lib.Seq.{take-length, take-take, take-append-seam, take-add, take-suc, drop-
 use Rattle.lists.specs.Lists.{at}
 use Rattle.lists.proofs.Entries.{each-append}
 use Rattle.synthesis.specs.Fed.{fed, numbersOf, leaves, leavesAny, leavesAt}
-use Rattle.synthesis.proofs.Flags.{or-left, or-right, or-same}
+use Rattle.basicop.proofs.Tests.{or-left, or-right}
+use Rattle.synthesis.proofs.Flags.{or-same}
 
 module _ (make : ℤ → List ℤ → ℤ) where
   pub length-fed : (xs y : List ℤ) → length (fed make xs y) ≡ length y + length xs

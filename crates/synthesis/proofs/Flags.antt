@@ -14,17 +14,10 @@ use mir.Syntax.{w32}
 use mir.Val.{SFits}
 use Rattle.basicop.specs.Ops.{clamp, least, most}
 use Rattle.basicop.proofs.Clamp.{clamp-mid, clamp-fits}
+use Rattle.basicop.proofs.Tests.{or-left, or-right}
 use Rattle.synthesis.specs.Fed.{outside, leaves, leavesAny, leavesAt}
 
 -- ---- two flags
-pub or-left : (b c : Bool) → (b || c) ≡ false → b ≡ false
-or-left true c e = e
-or-left false c e = refl
-
-pub or-right : (b c : Bool) → (b || c) ≡ false → c ≡ false
-or-right true c e = cc
-or-right false c e = e
-
 -- the second matters only where the first is down
 pub or-same : (b b′ c c′ : Bool) → b ≡ b′ → (b′ ≡ false → c ≡ c′) → (b || c) ≡ (b′ || c′)
 or-same b true c c′ e f = rw e

@@ -13,7 +13,8 @@ use Rattle.synthesis.specs.Fed.{fed, numbersOf, leaves, leavesAny, leave
 use Rattle.synthesis.specs.Synthesis.{sample, unheld, unhelds, overflowed, overflowedAt}
 use Rattle.synthesis.specs.Whole.{sum, sums, wholes}
 use Rattle.synthesis.specs.Pass.{Halved, Ended}
-use Rattle.synthesis.proofs.Flags.{or-left, or-same, leaves-two, any-append, at-append, at-none, at-here}
+use Rattle.basicop.proofs.Tests.{or-left}
+use Rattle.synthesis.proofs.Flags.{or-same, leaves-two, any-append, at-append, at-none, at-here}
 use Rattle.synthesis.proofs.Fed.{length-fed, length-numbers, numbers-append, fed-more}
 use Rattle.synthesis.proofs.Agree.{unheld-same, sample-same}
 

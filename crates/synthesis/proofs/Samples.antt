@@ -5,16 +5,18 @@ use mathlib.Core.Bool.{false}
 use mathlib.Core.List.{List, append-nil}
 use native.Mathlib.Omega.{arith}
 use borrow.Author.Tests.{ltb-false}
-use lib.Dec.{ltb, lit<}
-use lib.IntN.{ℤ, pos}
+use lib.Dec.{ltb}
+use lib.IntN.{ℤ}
 use lib.ListN.{length, length-append, length-drop, drop-of-length-le, take, drop, take-append-drop}
 use lib.Seq.{take-all, length-take-le}
 use mir.Syntax.{w16}
 use mir.Val.{SFits}
 use Rattle.lists.specs.Lists.{at}
+use Rattle.basicop.specs.Words.{Words}
 use Rattle.basicop.proofs.Fits.{round-fits}
+use Rattle.basicop.proofs.Words.{zero-fits, words-drop}
 use Rattle.synthesis.specs.Fed.{fed}
-use Rattle.synthesis.specs.Synthesis.{accs, unheld, unhelds, sample, samples, overflowed, overflowedAt, firstSamples, shifted, previewed}
+use Rattle.synthesis.specs.Synthesis.{accs, unheld, unhelds, sample, samples, overflowed, overflowedAt, firstSamples, shifted, previewed, newest}
 use Rattle.synthesis.specs.Whole.{sums, wholes, whole, wholeSamples}
 use Rattle.synthesis.proofs.Flags.{any-by-at, at-most}
 use Rattle.synthesis.proofs.Fed.{length-fed, fed-starts, fed-append, fed-each, length-numbers, cut}
@@ -78,7 +80,11 @@ sample-fits m a x y = round-fits (shifted m a x y)
 
 pub samples-fit : (m : ℕ) (a xs h : List ℤ) → length h ≡ m → (i : ℕ) → SFits w16 (at (samples m a xs h) i)
 samples-fit m a xs h l =
-    fed-each (sample m a) (SFits w16) none (sample-fits m a) m xs h (omega (arith, l)) (rw (drop-of-length-le h {i = m} (omega (arith, l))) (λ i. none))
-  where
-    none : SFits w16 (pos 0)
-    none = record { sfits = lit< tt }
+    fed-each (sample m a) (SFits w16) zero-fits (sample-fits m a) m xs h (omega (arith, l)) (rw (drop-of-length-le h {i = m} (omega (arith, l))) (λ i. zero-fits))
+
+pub samples-words : {n : ℕ} (a xs h : List ℤ) → length h ≡ 10 → length xs ≡ n → Words n (samples 10 a xs h)
+samples-words a xs h e l = record { count = length-samples 10 a xs h e ∙ l; fit = samples-fit 10 a xs h e }
+
+-- the last ten of forty
+pub newest-words : (ys : List ℤ) → Words 40 ys → Words 10 (newest 10 ys)
+newest-words ys w = rw (w .count) (words-drop 30 ys w)

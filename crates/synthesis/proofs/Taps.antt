@@ -18,7 +18,8 @@ use Rattle.synthesis.specs.Fed.{outside, ago, leaves}
 use Rattle.synthesis.specs.Synthesis.{acc}
 use Rattle.synthesis.specs.Whole.{product, sum, sums}
 use Rattle.synthesis.specs.Pass.{weight, Halved}
-use Rattle.synthesis.proofs.Flags.{or-right, leaves-append, leaves-one, leaves-two}
+use Rattle.basicop.proofs.Tests.{or-right}
+use Rattle.synthesis.proofs.Flags.{leaves-append, leaves-one, leaves-two}
 use Rattle.synthesis.proofs.Halves.{double-sub, inside-size, small-inside}
 
 -- y(n - k) in a buffer that has y(n) at p

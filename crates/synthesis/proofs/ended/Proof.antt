@@ -6,7 +6,8 @@ use mir.Syntax.{w16, w32, w64}
 use mir.Facts.{toZ-ofZ}
 use Rattle.basicop.specs.Ops.{asr}
 use Rattle.basicop.proofs.Shift.{asr-fits, sfits-shr-same}
-use Rattle.synthesis.proofs.Flags.{or-right, inside-fits}
+use Rattle.basicop.proofs.Tests.{or-right}
+use Rattle.synthesis.proofs.Flags.{inside-fits}
 use Rattle.synthesis.proofs.Halves.{scaled-is, scaled-fits, last-fits}
 use Rattle.synthesis.proofs.ended.Statement.{statement}
 use Rattle.synthesis.proofs.ended.Tie as tie
