@@ -1,0 +1,157 @@
+-- A subframe of the definition beside the machine of whole numbers. Assumes nothing.
+use Prim.Native.Nat.{ℕ, zero, suc, _-_}
+use mathlib.Core.Path.{_≡_, refl, sym, ap, _∙_, fun-ext, subst}
+use mathlib.Core.Bool.{Bool, true, false, cond}
+use mathlib.Core.List.{List, [], _∷_, map}
+use lib.IntN.{ℤ, *ℤ-comm}
+use lib.ListN.{length, drop}
+use Rattle.lists.specs.Lists.{at}
+use Rattle.basicop.specs.Ops.{clamp, L-mult, L-sub, L-add, L-shl}
+use Rattle.synthesis.specs.Fed.{fed}
+use Rattle.synthesis.specs.Synthesis.{acc, sample, samples}
+use Rattle.synthesis.specs.Whole.{retried}
+use Rattle.lpc.specs.declared.Rows.{Rows}
+use Rattle.decoder.specs.declared.Core.{Core}
+use Rattle.decoder.specs.declared.Parameters.{Parameters}
+use Rattle.decoder.specs.declared.Subframes.{Subframes}
+use Rattle.decoder.specs.Subframe.{Fed, Subframe, synthesised}
+use Rattle.decoder.specs.Core.{Turn, turn, ran}
+use Rattle.decoder.proofs.Retry.{retry}
+use Rattle.decoder.proofs.Results.{Held, turn-row, turn-made, turn-past, turn-history, turn-forty, turn-makes, turn-held}
+use Rattle.mr74.specs.Frame.{turnsOf}
+use Rattle.mr74.specs.Measure.{Machine, Measured, heldSum, heldSample, heldSamples, unretried, again, measured, leaves, leavesAll}
+use Rattle.mr74.specs.Demand3.{AsMeasured, Beside}
+
+-- ---- the machine's clamped steps are those of Syn_filt
+held-sum : (a : List ℤ) (x : ℤ) (y : List ℤ) (k : ℕ) → heldSum a x y k ≡ acc a x y k
+unfolding heldSum acc L-mult L-sub clamp
+held-sum a x y zero = rw (*ℤ-comm x (at a 0))
+held-sum a x y (suc k) = rw (held-sum a x y k)
+
+held-sample : (a : List ℤ) (x : ℤ) (y : List ℤ) → heldSample a x y ≡ sample 10 a x y
+unfolding L-shl L-add clamp
+held-sample a x y = rw (held-sum a x y 10)
+
+pub held-samples : (a xs h : List ℤ) → heldSamples a xs h ≡ samples 10 a xs h
+held-samples a xs h = ap (λ (make : ℤ → List ℤ → ℤ). drop 10 (fed make xs h)) (fun-ext (λ x. fun-ext (λ y. held-sample a x y)))
+
+-- ---- one subframe
+module _ (f : Fed) (m : Machine) (l : length (m .history) ≡ 10) where
+  abbrev flag : Bool
+  flag = retried 10 (f .row) (f .excitation) (m .history)
+
+  abbrev d : Subframe
+  d = synthesised f (m .history) (m .past)
+
+  measures : (b : Bool) → flag ≡ b → measured f m ≡ cond b (again f m) (unretried f m)
+  unfolding measured
+  measures b e = rw e
+
+  -- its samples and its past are the definition's
+  samples-go : (b : Bool) → flag ≡ b → measured f m .samples ≡ d .samples
+  samples-go true e = ap (λ (r : Measured). r .samples) (measures true e) ∙ held-samples (f .row) _ (m .history) ∙ sym (retry f (m .history) (m .past) l .again-samples e)
+  samples-go false e = ap (λ (r : Measured). r .samples) (measures false e) ∙ sym (retry f (m .history) (m .past) l .kept-samples e)
+
+  past-go : (b : Bool) → flag ≡ b → measured f m .past ≡ d .past
+  past-go true e = ap (λ (r : Measured). r .past) (measures true e) ∙ sym (retry f (m .history) (m .past) l .again-past e)
+  past-go false e = ap (λ (r : Measured). r .past) (measures false e) ∙ sym (retry f (m .history) (m .past) l .kept-past e)
+
+  pub measured-samples : measured f m .samples ≡ d .samples
+  measured-samples = samples-go flag refl
+
+  pub measured-past : measured f m .past ≡ d .past
+  measured-past = past-go flag refl
+
+-- ---- a subframe step
+abbrev pub machineOf : Core → Machine
+machineOf c = record { history = c .history; past = c .past }
+
+module _ (c : Core) (row : List ℤ) (p : Parameters) (h : Held c) where
+  abbrev t : Turn
+  t = turn c row p
+
+  pub turn-measured : length row ≡ 11 → AsMeasured (t .fed) (machineOf c) (t .made)
+  turn-measured e =
+      let k = turn-forty c row p (h .past .count) in
+      let r = retry (t .fed) (c .history) (c .past) (h .history .count) in
+      subst (AsMeasured (t .fed) (machineOf c)) (sym (turn-made c row p))
+      (record {
+        row = ap length (turn-row c row p) ∙ e;
+        fed = (k .feedback .count, k .excitation);
+        machine = (h .history .count, h .past .count);
+        forty = sym (ap (λ (d : Subframe). length (d .samples)) (turn-made c row p)) ∙ turn-makes c row p h .samples .count;
+        flag = r .flag;
+        samples = λ n. r .kept-samples (sym (r .flag) ∙ n);
+        kept = λ n. (r .kept-feedback (sym (r .flag) ∙ n), r .kept-past (sym (r .flag) ∙ n));
+        quartered = λ y. (r .again-feedback (sym (r .flag) ∙ y), r .again-past (sym (r .flag) ∙ y));
+        again = λ y. r .again-samples (sym (r .flag) ∙ y) ∙ sym (held-samples (t .fed .row) _ (c .history)) ∙ ap (λ (x : List ℤ). heldSamples (t .fed .row) x (c .history)) (sym (r .again-feedback (sym (r .flag) ∙ y)));
+      })
+
+  pub turn-leaves : leaves (t .fed) (machineOf c) ≡ machineOf (t .next)
+  turn-leaves =
+      let ys = measured-samples (t .fed) (machineOf c) (h .history .count) ∙ sym (ap (λ (d : Subframe). d .samples) (turn-made c row p)) in
+      let n : length (t .made .samples) - 10 ≡ 30 = rw (turn-makes c row p h .samples .count) refl in
+      λ i. record {
+        history = (ap (drop 30) ys ∙ ap (λ (k : ℕ). drop k (t .made .samples)) (sym n) ∙ sym (turn-history c row p)) i;
+        past = (measured-past (t .fed) (machineOf c) (h .history .count) ∙ sym (ap (λ (d : Subframe). d .past) (turn-made c row p)) ∙ sym (turn-past c row p)) i;
+      }
+
+-- ---- four of them
+-- each row has eleven coefficients
+pub record Elevens (rows : Rows) : Type 0 where
+  pub a : length (rows .a) ≡ 11
+  pub b : length (rows .b) ≡ 11
+  pub c : length (rows .c) ≡ 11
+  pub d : length (rows .d) ≡ 11
+
+module _ (core : Core) (rows : Rows) (p : Subframes) (h : Held core) where
+  abbrev a : Turn
+  a = turn core (rows .a) (p .a)
+
+  abbrev b : Turn
+  b = turn (a .next) (rows .b) (p .b)
+
+  abbrev c : Turn
+  c = turn (b .next) (rows .c) (p .c)
+
+  abbrev e : Turn
+  e = turn (c .next) (rows .d) (p .d)
+
+  pub ran-is : turnsOf (ran core rows p) ≡ a ∷ b ∷ c ∷ e ∷ []
+  unfolding ran
+  ran-is = refl
+
+  held-a : Held (a .next)
+  held-a = turn-held core (rows .a) (p .a) h
+
+  held-b : Held (b .next)
+  held-b = turn-held (a .next) (rows .b) (p .b) held-a
+
+  held-c : Held (c .next)
+  held-c = turn-held (b .next) (rows .c) (p .c) held-b
+
+  pub ran-held : Held (ran core rows p .d .next)
+  unfolding ran
+  ran-held = turn-held (c .next) (rows .d) (p .d) held-c
+
+  pub ran-beside : Elevens rows → Beside (machineOf core) (turnsOf (ran core rows p))
+  ran-beside l =
+      subst (Beside (machineOf core)) (sym ran-is) (
+        turn-measured core (rows .a) (p .a) h (l .a),
+        subst (λ (m : Machine). Beside m (b ∷ c ∷ e ∷ [])) (sym (turn-leaves core (rows .a) (p .a) h)) (
+          turn-measured (a .next) (rows .b) (p .b) held-a (l .b),
+          subst (λ (m : Machine). Beside m (c ∷ e ∷ [])) (sym (turn-leaves (a .next) (rows .b) (p .b) held-a)) (
+            turn-measured (b .next) (rows .c) (p .c) held-b (l .c),
+            subst (λ (m : Machine). Beside m (e ∷ [])) (sym (turn-leaves (b .next) (rows .c) (p .c) held-b))
+                (turn-measured (c .next) (rows .d) (p .d) held-c (l .d), tt),
+          ),
+        ),
+      )
+
+  pub ran-leaves : leavesAll (map (λ (t : Turn). t .fed) (turnsOf (ran core rows p))) (machineOf core) ≡ machineOf (ran core rows p .d .next)
+  unfolding ran leavesAll
+  ran-leaves =
+      ap (λ (m : Machine). leaves (e .fed) (leaves (c .fed) (leaves (b .fed) m))) (turn-leaves core (rows .a) (p .a) h)
+      ∙ ap (λ (m : Machine). leaves (e .fed) (leaves (c .fed) m)) (turn-leaves (a .next) (rows .b) (p .b) held-a)
+      ∙ ap (λ (m : Machine). leaves (e .fed) m) (turn-leaves (b .next) (rows .c) (p .c) held-b)
+      ∙ turn-leaves (c .next) (rows .d) (p .d) held-c

@@ -1,0 +1,40 @@
+-- Lists of frame calls: document 01, "each call given the state that the last one gave back".
+use mathlib.Core.Bool.{Bool, false, cond, _||_}
+use mathlib.Core.List.{List, [], _∷_}
+use lib.IntN.{ℤ}
+use lib.ListN.{getD}
+use Rattle.state.specs.declared.State.{State}
+use Rattle.state.specs.Outcome.{isAccepted}
+use Rattle.mr74.specs.Frame.{Trace, frameTrace}
+
+-- a call brings its own sheet and output
+pub data Call : Type 0 where
+  Frame : (sheet out : List ℤ) → Call
+
+abbrev pub traceOf : State → Call → Trace
+traceOf s (Frame sheet out) = frameTrace sheet s out
+
+abbrev pub nextState : State → Call → State
+nextState s c = traceOf s c .next
+
+unfoldable pub runCalls : State → List Call → List Trace
+runCalls s [] = []
+runCalls s (c ∷ cs) = traceOf s c ∷ runCalls (nextState s c) cs
+
+unfoldable pub stateAfter : State → List Call → State
+stateAfter s [] = s
+stateAfter s (c ∷ cs) = stateAfter (nextState s c) cs
+
+-- ---- what the list's answers say
+abbrev pub accepted : Trace → Bool
+accepted t = isAccepted (t .outcome)
+
+-- some call was accepted
+unfoldable pub anyAccepted : List Trace → Bool
+anyAccepted [] = false
+anyAccepted (t ∷ ts) = accepted t || anyAccepted ts
+
+-- the flag of the last subframe of the latest accepted call; `before` where there is none
+unfoldable pub latestFlag : Bool → List Trace → Bool
+latestFlag before [] = before
+latestFlag before (t ∷ ts) = latestFlag (cond (accepted t) (getD (t .flags) 3 false) before) ts

@@ -1,0 +1,87 @@
+-- Demand 3: a single claim about a list of frame calls, from an opening state. The theorem is `demand-3` in proofs/Demand3.antt.
+use mathlib.Core.Path.{_≡_}
+use mathlib.Core.Bool.{true, false}
+use mathlib.Core.List.{List, [], _∷_, map}
+use lib.IntN.{ℤ, pos, negsuc}
+use lib.ListN.{length}
+use lib.Signed.{_≤ℤ_}
+use Rattle.lists.specs.Lists.{Every}
+use Rattle.basicop.specs.Ops.{Quotient}
+use Rattle.synthesis.specs.Whole.{wholeSamples, retried}
+use Rattle.decoder.specs.Subframe.{Fed, Subframe}
+use Rattle.decoder.specs.Core.{Turn}
+use Rattle.state.specs.declared.State.{State}
+use Rattle.state.specs.declared.Outcome.the-variants.{Accepted}
+use Rattle.state.specs.State.{WellFormed, stateVerdict}
+use Rattle.mr74.specs.Frame.{Trace}
+use Rattle.mr74.specs.Calls.{Call, traceOf, nextState, runCalls, stateAfter, accepted, anyAccepted, latestFlag}
+use Rattle.mr74.specs.Measure.{Machine, heldSamples, quarters, takesIn, leaves, leavesAll}
+
+-- from .. to
+abbrev pub In : ℤ → ℤ → ℤ → Type 0
+In from to x = (from ≤ℤ x) × (x ≤ℤ to)
+
+-- ---- one subframe: d is the definition's, held against the machine m, which is fed f
+pub record AsMeasured (f : Fed) (m : Machine) (d : Subframe) : Type 0 where
+  -- the row a0..a10, forty of feedback and of first excitation; ten samples of history, 154 past excitations; forty synthesis samples
+  pub row : length (f .row) ≡ 11
+  pub fed : (length (f .feedback) ≡ 40) × (length (f .excitation) ≡ 40)
+  pub machine : (length (m .history) ≡ 10) × (length (m .past) ≡ 154)
+  pub forty : length (d .samples) ≡ 40
+  -- "A subframe's flag is 1, retried, exactly when document 01's whole-number recurrence, unclamped, on its first excitation leaves 32 signed bits at some step."
+  pub flag : d .retried ≡ retried 10 (f .row) (f .excitation) (m .history)
+  -- "Unretried, its forty synthesis samples are that recurrence's."
+  pub samples : d .retried ≡ false → d .samples ≡ wholeSamples 10 (f .row) (f .excitation) (m .history)
+  pub kept : d .retried ≡ false → (d .feedback ≡ f .feedback) × (d .past ≡ takesIn (m .past) (f .feedback))
+  -- "Retried, feedback excitation and past were quartered once, rounding down,"
+  pub quartered : d .retried ≡ true → (d .feedback ≡ quarters (f .feedback)) × (d .past ≡ takesIn (quarters (m .past)) (quarters (f .feedback)))
+  -- "and the samples are the clamped recurrence's on that feedback."
+  pub again : d .retried ≡ true → d .samples ≡ heldSamples (f .row) (d .feedback) (m .history)
+
+-- one after another, each against what the machine's own subframe before it left
+abbrev pub Beside : Machine → List Turn → Type 0
+Beside m [] = Unit {0}
+Beside m (t ∷ ts) = AsMeasured (t .fed) m (t .made) × Beside (leaves (t .fed) m) ts
+
+-- ---- the machine beside the calls
+-- it has history and past from the list's opening state, once
+abbrev pub opening : State → Machine
+opening s = record { history = s .core .history; past = s .core .past }
+
+-- after a call it has what its own subframes left. They were fed the row, the feedback and the first excitation that the definition works out
+abbrev pub machineAfter : Machine → Trace → Machine
+machineAfter m t = leavesAll (map (λ (u : Turn). u .fed) (t .turns)) m
+
+-- ---- an accepted call
+pub record InCall (t : Trace) (m : Machine) : Type 0 where
+  -- "In each accepted call every postfilter tilt lay in 0..=26214": one a subframe
+  pub tilts : (length (t .tilts) ≡ 4) × Every (In (pos 0) (pos 26214)) (t .tilts)
+  -- "and no divisor was zero."
+  pub divisors : Every (λ (q : Quotient). ¬ (q .divisor ≡ pos 0)) (t .quotients)
+  -- the answer's four flags and rows are those of the four subframes
+  pub four : length (t .turns) ≡ 4
+  pub flags : t .flags ≡ map (λ (u : Turn). u .made .retried) (t .turns)
+  pub rows : map (λ (u : Turn). u .fed .row) (t .turns) ≡ t .rows .a ∷ t .rows .b ∷ t .rows .c ∷ t .rows .d ∷ []
+  -- each subframe is as the machine has it
+  pub subframes : Beside m (t .turns)
+  -- and the state given back has the history and the past that the machine is left with
+  pub left : opening (t .next) ≡ machineAfter m t
+
+-- in each accepted call of the list, with the machine as it stood before the call
+abbrev pub EachAccepted : State → Machine → List Call → Type 0
+EachAccepted s m [] = Unit {0}
+EachAccepted s m (c ∷ cs) = (accepted (traceOf s c) ≡ true → InCall (traceOf s c) m) × EachAccepted (nextState s c) (machineAfter m (traceOf s c)) cs
+
+-- ---- the claim
+pub record Demand3 (s : State) (cs : List Call) : Type 0 where
+  -- "once a call was accepted, the state after the list has sharpening in 0..=13017, smoothed gain in 0..=32765,"
+  pub sharpening : anyAccepted (runCalls s cs) ≡ true → In (pos 0) (pos 13017) (stateAfter s cs .core .sharpening .0)
+  pub gain : anyAccepted (runCalls s cs) ≡ true → In (pos 0) (pos 32765) (stateAfter s cs .post .gain .«previous_gain»)
+  -- "and, if the latest accepted call's last subframe was retried, all 154 past excitations in -8192..=8191."
+  pub past : latestFlag false (runCalls s cs) ≡ true → (length (stateAfter s cs .core .past) ≡ 154) × Every (In (negsuc 8191) (pos 8191)) (stateAfter s cs .core .past)
+  -- tilts, divisors, flags, samples, feedback and past
+  pub calls : EachAccepted s (opening s) cs
+
+-- from any accepted state, for every list of calls, refused ones included, of any sheets and outputs, the empty list too
+abbrev pub Demand3-holds : Type 0
+Demand3-holds = (s : State) → WellFormed s → stateVerdict s ≡ Accepted → (cs : List Call) → Demand3 s cs

@@ -1,0 +1,102 @@
+-- The frame call: the core of the frame (Decoder_amr of TS 26.073), then the postfilter over its synthesis samples (Post_Filter).
+use mathlib.Core.Bool.{Bool, false, cond}
+use mathlib.Core.List.{List, [], _∷_, _++_, map}
+use lib.IntN.{ℤ, pos}
+use lib.ListN.{length, replicate}
+use Rattle.basicop.specs.Ops.{Quotient}
+use Rattle.pitch.specs.Lag.{Lag}
+use Rattle.lpc.specs.declared.Rows.{Rows}
+use Rattle.decoder.specs.Core.{Turn, Turns, Decoded, decoded, toldRun}
+use Rattle.postfilter.specs.Postfilter.{Processed, processed}
+use Rattle.state.specs.declared.State.{State}
+use Rattle.state.specs.declared.Outcome.{Outcome}
+use Rattle.state.specs.Outcome.{isAccepted}
+use Rattle.mr74.specs.declared.FrameAnswer.{FrameAnswer}
+use Rattle.mr74.specs.Sheet.{lsfsOf, Lags, lagsOf, subframesOf}
+use Rattle.mr74.specs.Verdict.{verdict}
+
+-- ---- a frame, of an accepted sheet and state
+-- the core takes and gives the core's part of the state alone
+abbrev pub coreOf : List ℤ → State → Decoded
+coreOf sheet s = decoded (s .core) (lsfsOf sheet) (subframesOf sheet)
+
+-- the postfilter has its own memory, the rows and the synthesis samples
+abbrev pub postOf : List ℤ → State → Processed
+postOf sheet s = processed (s .post) (coreOf sheet s .rows) (toldRun (coreOf sheet s .turns) .samples)
+
+abbrev pub nextOf : List ℤ → State → State
+nextOf sheet s = record { core = coreOf sheet s .turns .d .next; post = postOf sheet s .output .memory }
+
+-- ---- all that document 01 speaks of in a call
+pub record Trace : Type 0 where
+  -- the refusal, or that it was accepted
+  pub outcome : Outcome
+  pub rows : Rows
+  -- of each subframe
+  pub lags : List Lag
+  -- of each subframe: what its synthesis was fed (row, feedback before any quartering, first excitation), what came of it (flag, place, synthesis samples,
+  -- feedback, past), and the core's state after it
+  pub turns : List Turn
+  pub flags : List Bool
+  -- of each subframe
+  pub tilts : List ℤ
+  -- every quotient that was taken, with its divisor
+  pub quotients : List Quotient
+  -- the lent output afterwards, and the state given back
+  pub output : List ℤ
+  pub next : State
+
+abbrev pub listOf : Lags → List Lag
+listOf l = l .a ∷ l .b ∷ l .c ∷ l .d ∷ []
+
+abbrev pub turnsOf : Turns → List Turn
+turnsOf t = t .a ∷ t .b ∷ t .c ∷ t .d ∷ []
+
+abbrev pub flagsOf : List Turn → List Bool
+flagsOf ts = map (λ (t : Turn). t .made .retried) ts
+
+abbrev pub quotientsOf : Turns → List Quotient
+quotientsOf t = t .a .quotients ++ (t .b .quotients ++ (t .c .quotients ++ t .d .quotients))
+
+abbrev pub acceptedTrace : Outcome → List ℤ → State → Trace
+acceptedTrace o sheet s =
+    let c = coreOf sheet s in
+    let p = postOf sheet s in
+    record {
+      outcome = o;
+      rows = c .rows;
+      lags = listOf (lagsOf sheet);
+      turns = turnsOf (c .turns);
+      flags = flagsOf (turnsOf (c .turns));
+      tilts = p .tilts;
+      quotients = quotientsOf (c .turns) ++ p .quotients;
+      output = p .output .samples;
+      next = nextOf sheet s;
+    }
+
+-- rows all zero, flags 0, no subframe, the output as it was, the state as it came
+abbrev pub zeroRows : Rows
+zeroRows = record { a = replicate 11 (pos 0); b = replicate 11 (pos 0); c = replicate 11 (pos 0); d = replicate 11 (pos 0) }
+
+abbrev pub refusedTrace : Outcome → State → List ℤ → Trace
+refusedTrace o s out = record { outcome = o; rows = zeroRows; lags = []; turns = []; flags = replicate 4 false; tilts = []; quotients = []; output = out; next = s }
+
+-- of a sheet, a state and the lent output
+unfoldable pub frameTrace : List ℤ → State → List ℤ → Trace
+frameTrace sheet s out =
+    let o = verdict sheet s (length out) in
+    cond (isAccepted o) (acceptedTrace o sheet s) (refusedTrace o s out)
+
+-- ---- what the call gives: its answer, and the lent output afterwards
+pub record Called : Type 0 where
+  pub answer : FrameAnswer
+  pub lent : List ℤ
+
+abbrev pub called : FrameAnswer → List ℤ → Called
+called answer lent = record { answer = answer; lent = lent }
+
+abbrev pub given : Trace → Called
+given t = called (record { outcome = t .outcome; rows = t .rows; flags = t .flags; next = t .next }) (t .output)
+
+unfoldable pub frameCall : List ℤ → State → List ℤ → Called
+frameCall sheet s out = given (frameTrace sheet s out)
