@@ -1,8 +1,9 @@
 -- What a subframe and the core of a frame give: lengths, ranges, divisors. Assumes nothing.
 use Prim.Native.Nat.{ℕ}
 use mathlib.Core.Path.{_≡_, refl, sym, _∙_}
-use mathlib.Core.Bool.{true}
+use mathlib.Core.Bool.{Bool, true, false, cond}
 use mathlib.Core.List.{List, []}
+use lib.Dec.{ltb}
 use lib.IntN.{ℤ, pos, negsuc}
 use lib.ListN.{length, drop}
 use lib.Signed.{_≤ℤ_, ltZ}
@@ -21,12 +22,12 @@ use Rattle.excitation.proofs.Ranges.{sharpened-length, sharpening-range, feedba
 use Rattle.energy.proofs.Tests.{either}
 use Rattle.energy.proofs.Divisors.{agc2-divisors}
 use Rattle.energy.proofs.Results.{agc2-length}
-use Rattle.synthesis.specs.Synthesis.{overflowed, newest}
-use Rattle.synthesis.proofs.Samples.{samples-words, newest-words}
+use Rattle.synthesis.specs.Synthesis.{overflowed, overflowedAt, newest}
+use Rattle.synthesis.proofs.Samples.{overflowed-by-at, samples-words, newest-words}
 use Rattle.decoder.specs.declared.Core.{Core}
 use Rattle.decoder.specs.declared.Parameters.{Parameters}
 use Rattle.decoder.specs.Enhance.{enhancedAt, enhanced, firstExcitation}
-use Rattle.decoder.specs.Subframe.{Fed, Subframe, synthesised}
+use Rattle.decoder.specs.Subframe.{Fed, Subframe, kept, again, synthesised}
 use Rattle.decoder.specs.Core.{excited, turn}
 use Rattle.decoder.proofs.Retry.{retry}
 
@@ -65,6 +66,15 @@ made f h p k e w =
     either Made (overflowed 10 (f .row) (f .excitation) h)
     (record { samples = samples-words (f .row) (quartered (f .feedback)) h e (q .count); past = taking-words (quartered p) (quartered (f .feedback)) (words-quartered p w) q })
     (record { samples = samples-words (f .row) (f .excitation) h e (k .excitation); past = taking-words p (f .feedback) w (k .feedback) })
+
+-- the flag, by the place
+pub made-flag : (f : Fed) (h p : List ℤ) → length (f .excitation) ≡ 40 → synthesised f h p .retried ≡ ltb (synthesised f h p .place) 40
+unfolding synthesised
+made-flag f h p e = go (overflowed 10 (f .row) (f .excitation) h) (overflowed-by-at 10 (f .row) (f .excitation) h ∙ rw e)
+  where
+    go : (b : Bool) → b ≡ ltb (overflowedAt 10 (f .row) (f .excitation) h) 40 → cond b (again f h p) (kept f h p) .retried ≡ ltb (cond b (again f h p) (kept f h p) .place) 40
+    go true k = k
+    go false k = k
 
 -- ---- a subframe step
 -- past and history as the step needs them
@@ -133,3 +143,6 @@ module _ (c : Core) (row : List ℤ) (p : Parameters) where
       let k = turn-forty (h .past .count) in
       let r = retry (turn c row p .fed) (c .history) (c .past) (h .history .count) in
       rw (turn-past, turn-made) (r .again-small (sym (r .flag) ∙ rw turn-made at e) (h .past .fit) (k .feedback .fit))
+
+  pub turn-flag : length (c .past) ≡ 154 → turn c row p .made .retried ≡ ltb (turn c row p .made .place) 40
+  turn-flag h = rw turn-made (made-flag (turn c row p .fed) (c .history) (c .past) (turn-forty h .excitation))

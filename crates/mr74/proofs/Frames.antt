@@ -153,7 +153,7 @@ module _ (sheet : List ℤ) (s : State) (room : ℕ) (w : WellFormed s) (p : Pas
       let h = ran-held begun (rowsOf (s .core .lsp) new) (subframesOf sheet) held in
       let m = memory .memory in
       record {
-        lsp = rw (core-lsp begun sheet (s .core .lsp) new) (words-map lspOf lsp-fits (lsfsOf sheet) (length-take 10 sheet ∙ rw (p .count)));
+        lsp = rw (core-lsp begun sheet (s .core .lsp) new) (words-map lspOf lsp-fits (lsfsOf sheet) (length-take 10 sheet ∙ rw (p .ready .count)));
         past = h .past;
         sharpening = in-16 (pos 0) (pos 13017) _ (leZ-yes tt) (leZ-yes tt) frame-sharpening;
         history = h .history;

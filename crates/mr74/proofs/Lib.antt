@@ -1,7 +1,10 @@
--- Passed: what an accepted call has shown. Machine: a subframe beside the machine of whole numbers. Frames: what an accepted frame gives.
--- Calls: one call. Demand3: the theorem.
+-- Passed: what an accepted call has shown. Sheets: stretches of a sheet, its lags and indices. Verdicts: the verdict, row by row. Machine: a subframe beside the machine of whole numbers. Frames: what an accepted frame gives.
+-- Answers: the call's answer from its parts. Calls: one call. Demand3: the theorem.
 pub mod Passed
+pub mod Sheets
+pub mod Verdicts
 pub mod Machine
 pub mod Frames
+pub mod Answers
 pub mod Calls
 pub mod Demand3

@@ -3,6 +3,7 @@ use Prim.Native.Nat.{ℕ, zero, suc, _-_}
 use mathlib.Core.Path.{_≡_, refl, sym, ap, _∙_, fun-ext, subst}
 use mathlib.Core.Bool.{Bool, true, false, cond}
 use mathlib.Core.List.{List, [], _∷_, map}
+use lib.Dec.{ltb}
 use lib.IntN.{ℤ, *ℤ-comm}
 use lib.ListN.{length, drop}
 use Rattle.lists.specs.Lists.{at}
@@ -15,10 +16,10 @@ use Rattle.decoder.specs.declared.Core.{Core}
 use Rattle.decoder.specs.declared.Parameters.{Parameters}
 use Rattle.decoder.specs.declared.Subframes.{Subframes}
 use Rattle.decoder.specs.Subframe.{Fed, Subframe, synthesised}
-use Rattle.decoder.specs.Core.{Turn, turn, ran}
+use Rattle.decoder.specs.Core.{Turn, turn, ran, toldRun}
 use Rattle.decoder.proofs.Retry.{retry}
-use Rattle.decoder.proofs.Results.{Held, turn-row, turn-made, turn-past, turn-history, turn-forty, turn-makes, turn-held}
-use Rattle.mr74.specs.Frame.{turnsOf}
+use Rattle.decoder.proofs.Results.{Held, turn-row, turn-made, turn-past, turn-history, turn-forty, turn-makes, turn-held, turn-flag}
+use Rattle.mr74.specs.Frame.{turnsOf, flagsOf}
 use Rattle.mr74.specs.Measure.{Machine, Measured, heldSum, heldSample, heldSamples, unretried, again, measured, leaves, leavesAll}
 use Rattle.mr74.specs.Demand3.{AsMeasured, Beside}
 
@@ -155,3 +156,13 @@ module _ (core : Core) (rows : Rows) (p : Subframes) (h : Held core) where
       ∙ ap (λ (m : Machine). leaves (e .fed) (leaves (c .fed) m)) (turn-leaves (a .next) (rows .b) (p .b) held-a)
       ∙ ap (λ (m : Machine). leaves (e .fed) m) (turn-leaves (b .next) (rows .c) (p .c) held-b)
       ∙ turn-leaves (c .next) (rows .d) (p .d) held-c
+
+  -- the flags, by the places
+  pub ran-flags : map (λ (place : ℕ). ltb place 40) (toldRun (ran core rows p) .places) ≡ flagsOf (turnsOf (ran core rows p))
+  unfolding ran
+  ran-flags =
+      let fa = turn-flag core (rows .a) (p .a) (h .past .count) in
+      let fb = turn-flag (a .next) (rows .b) (p .b) (held-a .past .count) in
+      let fc = turn-flag (b .next) (rows .c) (p .c) (held-b .past .count) in
+      let fd = turn-flag (c .next) (rows .d) (p .d) (held-c .past .count) in
+      λ i. sym fa i ∷ sym fb i ∷ sym fc i ∷ sym fd i ∷ []

@@ -19,6 +19,7 @@ use Rattle.state.specs.declared.Outcome.the-variants.{SheetLength, Lsf, PitchIn
 use Rattle.state.specs.Outcome.{isAccepted}
 use Rattle.state.proofs.Verdict.{passes, Kept, kept}
 use Rattle.mr74.specs.Sheet.{lsfsOf, indicesOf, gainsOf}
+use Rattle.mr74.specs.Inner.{Ready}
 use Rattle.mr74.specs.Verdict.{within, firstIndexOutside, firstPitch, firstNegative, verdict}
 
 not-true : (b : Bool) → not b ≡ false → b ≡ true
@@ -58,23 +59,14 @@ all-within this next (x ∷ xs) zero h = one-more (within this x) (firstIndexOut
 all-within this next (x ∷ xs) (suc k) h = all-within next this xs k (one-more (within this x) (firstIndexOutside next this xs) (suc k) h .1)
 
 -- ---- an index in its range
-pub record Index (limit : ℤ) (index : ℤ) : Type 0 where
-  pub from : pos 0 ≤ℤ index
-  pub to : index ≤ℤ limit
-
-index-in : (limit index : ℤ) → within limit index ≡ true → Index limit index
+index-in : (limit index : ℤ) → within limit index ≡ true → (pos 0 ≤ℤ index) × (index ≤ℤ limit)
 index-in limit index e =
     let n = not-false (ltZ index (pos 0) || ltZ limit index) e in
-    record { from = less-no (or-left (ltZ index (pos 0)) (ltZ limit index) n); to = less-no (or-right (ltZ index (pos 0)) (ltZ limit index) n) }
+    (less-no (or-left (ltZ index (pos 0)) (ltZ limit index) n), less-no (or-right (ltZ index (pos 0)) (ltZ limit index) n))
 
 pub record Passed (sheet : List ℤ) (s : State) (room : ℕ) : Type 0 where
-  pub count : length sheet ≡ 182
+  pub ready : Ready sheet
   pub lent : room ≡ 160
-  pub lsfs : Frequencies (lsfsOf sheet)
-  pub index-a : Index (pos 255) (at sheet 10)
-  pub index-b : Index (pos 31) (at sheet 11)
-  pub index-c : Index (pos 255) (at sheet 12)
-  pub index-d : Index (pos 31) (at sheet 13)
   pub gains : (k : ℕ) → k < 8 → pos 0 ≤ℤ at sheet (14 + k)
   pub state : Kept (s .core .sharpening .0) (s .post .gain .«previous_gain»)
 
@@ -93,18 +85,20 @@ passed sheet s room h =
     let i : 4 ≤ firstPitch (indicesOf sheet) = ltb-false (firstPitch (indicesOf sheet)) 4 (r₃ .0) in
     let g = all-of (λ (gain : ℤ). not (ltZ gain (pos 0))) (gainsOf sheet) 8 (part-length sheet 14 8 e (omega arith)) (r₄ .0) in
     record {
-      count = e;
+      ready = record {
+        count = e;
+        lsfs = all-of _ (lsfsOf sheet) 10 (length-take 10 sheet ∙ rw e) (r₂ .0);
+        index-a = index-at i 0 (omega arith);
+        index-b = index-at i 1 (omega arith);
+        index-c = index-at i 2 (omega arith);
+        index-d = index-at i 3 (omega arith);
+      };
       lent = eqb-true room 160 (not-true _ (r₅ .0));
-      lsfs = all-of _ (lsfsOf sheet) 10 (length-take 10 sheet ∙ rw e) (r₂ .0);
-      index-a = index-at i 0 (omega arith);
-      index-b = index-at i 1 (omega arith);
-      index-c = index-at i 2 (omega arith);
-      index-d = index-at i 3 (omega arith);
       gains = λ k l. gain-at e g k l;
       state = kept (s .core .sharpening .0) (s .post .gain .«previous_gain») (r₄ .1);
     }
   where
-    index-at : 4 ≤ firstPitch (indicesOf sheet) → (k : ℕ) → k < 4 → Index (limitAt (pos 255) (pos 31) k) (at sheet (10 + k))
+    index-at : 4 ≤ firstPitch (indicesOf sheet) → (k : ℕ) → k < 4 → (pos 0 ≤ℤ at sheet (10 + k)) × (at sheet (10 + k) ≤ℤ limitAt (pos 255) (pos 31) k)
     index-at i k l = index-in (limitAt (pos 255) (pos 31) k) (at sheet (10 + k)) (rw (getD-take, getD-drop) at (all-within (pos 255) (pos 31) (indicesOf sheet) k (omega arith)))
 
     gain-at : length sheet ≡ 182 → firstNot (λ (gain : ℤ). not (ltZ gain (pos 0))) (gainsOf sheet) ≡ length (gainsOf sheet) → (k : ℕ) → k < 8 → pos 0 ≤ℤ at sheet (14 + k)

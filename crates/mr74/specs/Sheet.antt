@@ -32,13 +32,16 @@ lagsOf sheet =
     record { a = a; b = relative (at sheet 11) (a .samples); c = c; d = relative (at sheet 13) (c .samples) }
 
 -- ---- what the sheet gives for subframe k, beside its lag
+abbrev pub innovationOf : List ℤ → ℕ → List ℤ
+innovationOf sheet k = take 40 (drop (22 + 40 * k) sheet)
+
 abbrev pub parametersOf : List ℤ → ℕ → PitchLag → Parameters
 parametersOf sheet k lag =
     record {
       lag = lag;
       pitch = record { 0 = at sheet (14 + 2 * k) };
       code = record { 0 = at sheet (15 + 2 * k) };
-      innovation = take 40 (drop (22 + 40 * k) sheet);
+      innovation = innovationOf sheet k;
     }
 
 abbrev pub subframesOf : List ℤ → Subframes

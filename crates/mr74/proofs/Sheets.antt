@@ -1,0 +1,140 @@
+-- Stretches of a sheet, its lags, and its indices tested one by one. Assumes nothing.
+use Prim.Native.Nat.{ℕ, _+_, _*_, _≤_, _<_}
+use mathlib.Core.Path.{_≡_, refl, sym, ap, _∙_}
+use mathlib.Core.Bool.{Bool, true, false, not, _||_}
+use mathlib.Core.List.{List, [], _∷_, map}
+use native.Mathlib.Omega.{arith}
+use lib.Dec.{T, ltb, leb→le}
+use lib.IntN.{ℤ, pos, negsuc, natAbs}
+use lib.ListN.{length, take, drop, getD, length-drop}
+use lib.Seq.{drop-cons, take-suc, getD-take, getD-drop, length-take-le}
+use lib.Signed.{_≤ℤ_, leZ, ltZ, nonNeg}
+use mir.Syntax.{w8}
+use mir.Val.{Fits}
+use Rattle.lists.specs.Lists.{at}
+use Rattle.basicop.proofs.Tests.{at-most-yes, at-most-no, no-less, yes-less}
+use Rattle.pitch.specs.declared.PitchLag.{PitchLag}
+use Rattle.pitch.specs.Lag.{Lag, absolute, relative, lagOf, pitchLag}
+use Rattle.pitch.proofs.Lags.{Lawful, absolute-lawful, relative-lawful, lag-of}
+use Rattle.decoder.specs.Core.{Lags}
+use Rattle.mr74.specs.declared.FourLags.{FourLags}
+use Rattle.decoder.specs.declared.Parameters.{Parameters}
+use Rattle.decoder.specs.declared.Subframes.{Subframes}
+use Rattle.mr74.specs.Sheet.{indicesOf, lagsOf, innovationOf, parametersOf, subframesOf}
+use Rattle.mr74.specs.Inner.{Ready, fourLags}
+use Rattle.mr74.specs.Verdict.{within, firstIndexOutside, firstPitch}
+
+-- ---- n numbers from number k on
+pub stretch-length : (xs : List ℤ) (k n : ℕ) → k + n ≤ length xs → length (take n (drop k xs)) ≡ n
+stretch-length xs k n h = length-take-le n (drop k xs) (rw (length-drop k xs) (omega arith))
+
+pub stretch-at : (xs : List ℤ) (k n i : ℕ) → i < n → at xs (k + i) ≡ at (take n (drop k xs)) i
+stretch-at xs k n i h = sym (getD-take n (drop k xs) i (pos 0) h ∙ getD-drop k xs i (pos 0))
+
+-- ---- a pitch index as a byte
+pub byte-fits : (z : ℤ) → pos 0 ≤ℤ z → z ≤ℤ pos 255 → (T (nonNeg z) × Fits w8 (natAbs z)) × (pos (natAbs z) ≡ z)
+byte-fits (pos n) h k = ((tt, record { fits = omega (arith, leb→le n 255 (k .le)) }), refl)
+byte-fits (negsuc n) h k = absurd (h .le)
+
+-- ---- an index tested
+pub within-below : (limit index : ℤ) → ltZ index (pos 0) ≡ true → false ≡ within limit index
+within-below limit index e = rw e
+
+pub within-by : (limit index : ℤ) → ltZ index (pos 0) ≡ false → leZ index limit ≡ within limit index
+within-by limit index e = rw e (go (leZ index limit) refl)
+  where
+    go : (b : Bool) → leZ index limit ≡ b → b ≡ not (ltZ limit index)
+    go true k = rw (no-less limit index (at-most-yes k))
+    go false k = rw (yes-less limit index (at-most-no index limit k))
+
+-- ---- the four indices
+module _ (sheet : List ℤ) (e : length sheet ≡ 182) where
+  pub indices-are : indicesOf sheet ≡ at sheet 10 ∷ at sheet 11 ∷ at sheet 12 ∷ at sheet 13 ∷ []
+  indices-are =
+      rw (drop-cons sheet 10 (pos 0) (omega (arith, e)), drop-cons sheet 11 (pos 0) (omega (arith, e)), drop-cons sheet 12 (pos 0) (omega (arith, e)), drop-cons sheet 13 (pos 0) (omega (arith, e)))
+
+  abbrev a : Bool
+  a = within (pos 255) (at sheet 10)
+
+  abbrev b : Bool
+  b = within (pos 31) (at sheet 11)
+
+  abbrev c : Bool
+  c = within (pos 255) (at sheet 12)
+
+  abbrev d : Bool
+  d = within (pos 31) (at sheet 13)
+
+  pub pitch-0 : a ≡ false → 0 ≡ firstPitch (indicesOf sheet)
+  unfolding firstIndexOutside
+  pitch-0 x = rw (indices-are, x)
+
+  pub pitch-1 : a ≡ true → b ≡ false → 1 ≡ firstPitch (indicesOf sheet)
+  unfolding firstIndexOutside
+  pitch-1 w x = rw (indices-are, w, x)
+
+  pub pitch-2 : a ≡ true → b ≡ true → c ≡ false → 2 ≡ firstPitch (indicesOf sheet)
+  unfolding firstIndexOutside
+  pitch-2 v w x = rw (indices-are, v, w, x)
+
+  pub pitch-3 : a ≡ true → b ≡ true → c ≡ true → d ≡ false → 3 ≡ firstPitch (indicesOf sheet)
+  unfolding firstIndexOutside
+  pitch-3 u v w x = rw (indices-are, u, v, w, x)
+
+  pub pitch-4 : a ≡ true → b ≡ true → c ≡ true → d ≡ true → 4 ≡ firstPitch (indicesOf sheet)
+  unfolding firstIndexOutside
+  pitch-4 u v w x = rw (indices-are, u, v, w, x)
+
+-- ---- the lags
+pub lags-are : (sheet : List ℤ) {a b c d : PitchLag} {i j k l : ℕ} → pos i ≡ at sheet 10 → pos j ≡ at sheet 11 → pos k ≡ at sheet 12 → pos l ≡ at sheet 13
+    → lagOf a ≡ absolute (pos i) → lagOf b ≡ relative (pos j) (lagOf a .samples) → lagOf c ≡ absolute (pos k) → lagOf d ≡ relative (pos l) (lagOf c .samples)
+    → _≡_ {A = FourLags} (record { a = a; b = b; c = c; d = d }) (fourLags (lagsOf sheet))
+unfolding lagsOf
+lags-are sheet {a} {b} {c} {d} ei ej ek el ea eb ec ed =
+    λ t. record { a = lag-of {l = a} (ea ∙ ap absolute ei) t; b = lag-of {l = b} (eb ∙ next a ea ei ej) t; c = lag-of {l = c} (ec ∙ ap absolute ek) t; d = lag-of {l = d} (ed ∙ next c ec ek el) t }
+  where
+    next : (a : PitchLag) {i j : ℕ} {x y : ℤ} → lagOf a ≡ absolute (pos i) → pos i ≡ x → pos j ≡ y → relative (pos j) (lagOf a .samples) ≡ relative y (absolute x .samples)
+    next a e f g = let k = e ∙ ap absolute f in λ t. relative (g t) (k t .samples)
+
+-- ---- four flags
+pub four-flags : (ps : List ℕ) → length ps ≡ 4 → ltb (getD ps 0 0) 40 ∷ ltb (getD ps 1 0) 40 ∷ ltb (getD ps 2 0) 40 ∷ ltb (getD ps 3 0) 40 ∷ [] ≡ map (λ (place : ℕ). ltb place 40) ps
+four-flags [] e = absurd (omega (arith, e))
+four-flags (p ∷ []) e = absurd (omega (arith, e))
+four-flags (p ∷ q ∷ []) e = absurd (omega (arith, e))
+four-flags (p ∷ q ∷ r ∷ []) e = absurd (omega (arith, e))
+four-flags (p ∷ q ∷ r ∷ s ∷ []) e = refl
+four-flags (p ∷ q ∷ r ∷ s ∷ t ∷ ps) e = absurd (omega (arith, e))
+
+-- ---- the parameters of a subframe
+pub parameters-are : (sheet : List ℤ) (k : ℕ) (lag : PitchLag) {x y : ℤ} {code : List ℤ} → x ≡ at sheet (14 + 2 * k) → y ≡ at sheet (15 + 2 * k) → code ≡ innovationOf sheet k
+    → _≡_ {A = Parameters} (record { lag = lag; pitch = record { 0 = x }; code = record { 0 = y }; innovation = code }) (parametersOf sheet k lag)
+parameters-are sheet k lag ex ey ec = λ i. record { lag = lag; pitch = record { 0 = ex i }; code = record { 0 = ey i }; innovation = ec i }
+
+pub subframes-are : (sheet : List ℤ) {l : FourLags} {a b c d : Parameters} → l ≡ fourLags (lagsOf sheet)
+    → a ≡ parametersOf sheet 0 (l .a) → b ≡ parametersOf sheet 1 (l .b) → c ≡ parametersOf sheet 2 (l .c) → d ≡ parametersOf sheet 3 (l .d)
+    → _≡_ {A = Subframes} (record { a = a; b = b; c = c; d = d }) (subframesOf sheet)
+subframes-are sheet e ea eb ec ed = rw (ea, eb, ec, ed, e)
+
+-- ---- every lag lies in 19..=144
+lawful-range : (l : Lag) → Lawful l → (19 ≤ pitchLag l .samples) × (pitchLag l .samples ≤ 144)
+lawful-range l w = rw (w .is) (w .from, w .to)
+
+absolute-range : (z : ℤ) → pos 0 ≤ℤ z → z ≤ℤ pos 255 → Lawful (absolute z)
+absolute-range (pos n) h k = absolute-lawful n (omega (arith, leb→le n 255 (k .le)))
+absolute-range (negsuc n) h k = absurd (h .le)
+
+relative-range : (z : ℤ) (l : Lag) → pos 0 ≤ℤ z → z ≤ℤ pos 31 → Lawful l → Lawful (relative z (l .samples))
+relative-range (pos n) l h k w = rw (w .is) (relative-lawful n (w .samples) (omega (arith, leb→le n 31 (k .le))))
+relative-range (negsuc n) l h k w = absurd (h .le)
+
+pub lags-lawful : (sheet : List ℤ) → Ready sheet → Lags (subframesOf sheet)
+unfolding lagsOf
+lags-lawful sheet r =
+    let a = absolute-range (at sheet 10) (r .index-a .0) (r .index-a .1) in
+    let c = absolute-range (at sheet 12) (r .index-c .0) (r .index-c .1) in
+    record {
+      a = lawful-range _ a;
+      b = lawful-range _ (relative-range (at sheet 11) (absolute (at sheet 10)) (r .index-b .0) (r .index-b .1) a);
+      c = lawful-range _ c;
+      d = lawful-range _ (relative-range (at sheet 13) (absolute (at sheet 12)) (r .index-d .0) (r .index-d .1) c);
+    }

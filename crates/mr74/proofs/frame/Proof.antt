@@ -1,0 +1,53 @@
+use mathlib.Core.Path.{_≡_, ap, sym, _∙_}
+use mathlib.Core.Bool.{true}
+use borrow.Author.Needs.{needs}
+use denote.Ref.{now}
+use lib.ListN.{length}
+use Rattle.state.specs.Outcome.{isAccepted}
+use Rattle.mr74.specs.Verdict.{verdict}
+use Rattle.mr74.proofs.Passed.{Passed, passed}
+use Rattle.mr74.proofs.Answers.{answer-accepted, answer-refused}
+use Rattle.mr74.proofs.frame.Statement.{statement}
+use Rattle.mr74.proofs.frame.Tie as tie
+
+-- what the verdict has shown where it accepts
+shown : (c : tie.Then1) → let a = c .before .before .before .args in Passed (now (a .sheet)) (a .state) (length (now (a .out)))
+shown c =
+    let v = c .before .before in
+    let a = v .before .args in
+    passed (now (a .sheet)) (a .state) (length (now (a .out))) (ap isAccepted (sym (v .validate .ensures)) ∙ sym (c .before .accepted .ensures) ∙ c .if1 .taken)
+
+decode-requires : tie.Need-decode-requires
+decode-requires c κs = shown c .ready
+
+copy-requires : tie.Need-copy-requires
+copy-requires c κs = shown (c .before .before .before) .lent
+
+returns : tie.Need-returns
+returns c =
+    let k = c .before .before .before .before in
+    let d = k .before .before .before in
+    let t = d .before in
+    let v = t .before .before in
+    let a = v .before .args in
+    answer-accepted (now (a .sheet)) (a .state) (now (a .out)) (v .validate .ensures) (sym (t .before .accepted .ensures) ∙ t .if1 .taken) (d .decode .ensures) (k .copy .ensures)
+
+returns-2 : tie.Need-returns-2
+returns-2 c =
+    let t = c .before in
+    let v = t .before .before in
+    let a = v .before .args in
+    answer-refused (now (a .sheet)) (a .state) (now (a .out)) (v .validate .ensures) (sym (t .before .accepted .ensures) ∙ t .if1 .left) (c .refused .ensures)
+
+pub frame-spec : {M : Type 1} → statement M
+frame-spec =
+    tie.close
+    (tie.spec
+    (λ c κs. search needs)
+    (λ c κs. search needs)
+    decode-requires
+    copy-requires
+    (λ c. search needs)
+    returns
+    (λ c κs. search needs)
+    returns-2)

@@ -1,0 +1,39 @@
+-- What inner functions of the frame call ask and give. The contract of the call itself does not use it.
+use mathlib.Core.Path.{_≡_}
+use mathlib.Core.Bool.{Bool, false}
+use mathlib.Core.List.{List}
+use lib.IntN.{ℤ, pos}
+use lib.ListN.{length, replicate}
+use lib.Signed.{_≤ℤ_}
+use Rattle.lists.specs.Lists.{at}
+use Rattle.pitch.specs.Lag.{pitchLag}
+use Rattle.spectral.specs.Lsp.{Frequencies}
+use Rattle.state.specs.declared.State.{State}
+use Rattle.state.specs.declared.Outcome.{Outcome}
+use Rattle.mr74.specs.declared.FourLags.{FourLags}
+use Rattle.mr74.specs.declared.Decoded.{Decoded}
+use Rattle.mr74.specs.declared.FrameAnswer.{FrameAnswer}
+use Rattle.mr74.specs.Sheet.{lsfsOf, Lags}
+use Rattle.mr74.specs.Frame.{coreOf, postOf, nextOf, turnsOf, flagsOf, zeroRows}
+
+-- a sheet that has passed rows 1, 2 and 3
+pub record Ready (sheet : List ℤ) : Type 0 where
+  pub count : length sheet ≡ 182
+  pub lsfs : Frequencies (lsfsOf sheet)
+  pub index-a : (pos 0 ≤ℤ at sheet 10) × (at sheet 10 ≤ℤ pos 255)
+  pub index-b : (pos 0 ≤ℤ at sheet 11) × (at sheet 11 ≤ℤ pos 31)
+  pub index-c : (pos 0 ≤ℤ at sheet 12) × (at sheet 12 ≤ℤ pos 255)
+  pub index-d : (pos 0 ≤ℤ at sheet 13) × (at sheet 13 ≤ℤ pos 31)
+
+-- the code's four lags
+abbrev pub fourLags : Lags → FourLags
+fourLags l = record { a = pitchLag (l .a); b = pitchLag (l .b); c = pitchLag (l .c); d = pitchLag (l .d) }
+
+-- what an accepted call gives
+unfoldable pub decodedOf : List ℤ → State → Decoded
+decodedOf sheet s =
+    record { rows = coreOf sheet s .rows; flags = flagsOf (turnsOf (coreOf sheet s .turns)); samples = postOf sheet s .output .samples; next = nextOf sheet s }
+
+-- and a refused one
+abbrev pub refusal : Outcome → State → FrameAnswer
+refusal o s = record { outcome = o; rows = zeroRows; flags = replicate 4 false; next = s }
