@@ -1,0 +1,29 @@
+-- What document 01 asks of the two calls together. The theorems are in proofs/Handover.antt.
+use mathlib.Core.Path.{_≡_}
+use mathlib.Core.Bool.{true}
+use mathlib.Core.List.{List, _++_}
+use Prim.Native.Nat.{ℕ, _<_}
+use lib.ListN.{length, drop, getD}
+use Rattle.state.specs.declared.State.{State}
+use Rattle.state.specs.declared.Outcome.the-variants.{Accepted}
+use Rattle.state.specs.Outcome.{isAccepted}
+use Rattle.state.specs.State.{WellFormed, stateVerdict}
+use Rattle.record.specs.Record.{told, versionOf, readCall, encoded}
+
+-- every number is a byte
+abbrev pub Bytes : List ℕ → Type 0
+Bytes b = (i : ℕ) → getD b i 0 < 256
+
+-- what was written is read back, behind any note, with that note
+abbrev pub ReadBack : Type 0
+ReadBack = (s : State) → WellFormed s → stateVerdict s ≡ Accepted → (note : List ℕ) → readCall (note ++ encoded s) ≡ told (record { outcome = Accepted; state = s }) note
+
+-- the record of a well-formed state, behind any note, is accepted exactly when rows 16 and 17 pass the state: it is turned back by the same row
+abbrev pub SameVerdict : Type 0
+SameVerdict = (s : State) → WellFormed s → (note : List ℕ) → readCall (note ++ encoded s) .answer .outcome ≡ stateVerdict s
+
+-- two accepted records of the same version that give the same state differ at most in their notes
+abbrev pub SameRest : Type 0
+SameRest =
+    (b c : List ℕ) → Bytes b → Bytes c → isAccepted (readCall b .answer .outcome) ≡ true → isAccepted (readCall c .answer .outcome) ≡ true → versionOf b ≡ versionOf c
+    → readCall b .answer .state ≡ readCall c .answer .state → drop (length (readCall b .note)) b ≡ drop (length (readCall c .note)) c
