@@ -65,17 +65,22 @@ abbrev pub numbersIn : List ℕ → List ℤ
 numbersIn b = words (take (distanceOf b) (drop (noteLength b) b))
 
 -- ---- the reader
--- 11: under 8 bytes; 12: tag differs; 13: unknown version; 14: distance or count is not the version's; 15: fewer bytes before the trailer
--- than the version's distance
-abbrev pub recordRows : List ℕ → List Row
-recordRows b =
+-- 12: tag differs; 13: unknown version; 14: distance or count is not the version's
+abbrev pub trailerRows : List ℕ → List Row
+trailerRows b =
     let t = trailerOf (versionOf b) versions in
-    row (ltb (length b) 8) RecordShort ∷
     row (not (tagged b)) Tag ∷
     row (not (known (versionOf b) versions)) Version ∷
     row (not (eqb (fieldAt b 4) (t .distance) && eqb (fieldAt b 6) (t .count))) Layout ∷
-    row (ltb (length b - 8) (t .distance)) BodyShort ∷
-    stateRows (at (numbersIn b) 164) (at (numbersIn b) 196)
+    []
+
+-- 11: under 8 bytes; 15: fewer bytes before the trailer than the version's distance
+abbrev pub recordRows : List ℕ → List Row
+recordRows b =
+    row (ltb (length b) 8) RecordShort ∷
+    trailerRows b ++
+    (row (ltb (length b - 8) (distanceOf b)) BodyShort ∷
+    stateRows (at (numbersIn b) 164) (at (numbersIn b) 196))
 
 unfoldable pub recordVerdict : List ℕ → Outcome
 recordVerdict b = firstMet (recordRows b)

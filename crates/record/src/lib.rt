@@ -3,14 +3,20 @@ ghost use mathlib.Core.Path.{_≡_};
 ghost use Prim.Native.Nat.{_+_, _-_, _*_, _≤_, _<_};
 ghost use lib.ListN.{length, take, drop};
 ghost use denote.Ref.{ptr};
+ghost use Rattle.lists.specs.Lists.{at};
+ghost use Rattle.state.specs.Outcome.{firstMet};
+ghost use Rattle.state.specs.State.{stateRows, stateOf};
 ghost use Rattle.record.specs.Bytes.{signed16, bits16, unsigned, words, bytesOf};
-ghost use Rattle.record.specs.Record.{recordVerdict, readCall, told, encoded, written, writeCall};
+ghost use Rattle.record.specs.Record.{trailerRows, recordVerdict, readCall, told, encoded, written, writeCall};
 use basicop::Q14;
 use decoder::Core;
 use energy::GainControl;
 use postfilter::Postfilter;
 use state::Outcome;
 use state::State;
+
+// A record without a note: the body's 394 bytes and the trailer's 8.
+const RECORD_BYTES: usize = 402;
 
 // The outcome and the state of a read.
 pub struct Answer {
@@ -84,4 +90,60 @@ pub fn put(dst: &mut [u8], src: &[i16])
         i += 1;
         j += 2;
     }
+}
+
+// ---- the reader
+// Rows 12 to 14, of the last 8 bytes.
+fn validate_trailer(t: &[u8]) -> Outcome
+    requires { ⌜ length (now t) ≡ 8 ⌝ }
+    ensures { λ r. ⌜ r ≡ firstMet (trailerRows (now (t .entry))) ⌝ }
+{
+    if t[0] != 0x4D {
+        return Outcome::Tag;
+    }
+    if t[1] != 0x37 {
+        return Outcome::Tag;
+    }
+    if unsigned(t[2], t[3]) != 1 {
+        return Outcome::Version;
+    }
+    if unsigned(t[4], t[5]) != 394 {
+        return Outcome::Layout;
+    }
+    if unsigned(t[6], t[7]) != 197 {
+        return Outcome::Layout;
+    }
+    Outcome::Accepted
+}
+
+// Rows 16 and 17, of the body's numbers 164 and 196.
+fn validate_body(body: &[u8]) -> Outcome
+    requires { ⌜ length (now body) ≡ 394 ⌝ }
+    ensures { λ r. ⌜ r ≡ firstMet (stateRows (at (words (now (body .entry))) 164) (at (words (now (body .entry))) 196)) ⌝ }
+{
+    let sharpening = Q14(word(body[328], body[329]));
+    let gain = GainControl {
+        previous_gain: word(body[392], body[393]),
+    };
+    state::validate_numbers(sharpening, gain)
+}
+
+// Rows 11 to 17.
+fn verdict(bytes: &[u8]) -> Outcome
+    ensures { λ r. ⌜ r ≡ recordVerdict (now (bytes .entry)) ⌝ }
+{
+    let n = bytes.len();
+    if n < 8 {
+        return Outcome::RecordShort;
+    }
+    let end = n - 8;
+    let outcome = validate_trailer(&bytes[end..]);
+    if outcome.accepted() {
+        if n < RECORD_BYTES {
+            return Outcome::BodyShort;
+        }
+        let start = n - RECORD_BYTES;
+        return validate_body(&bytes[start..end]);
+    }
+    outcome
 }

@@ -1,0 +1,77 @@
+-- The reader's definition, case by case. Assumes nothing.
+use mathlib.Core.Path.{_≡_, refl, ap, ap₂, sym, _∙_}
+use mathlib.Core.Bool.{Bool, true, false, cond}
+use mathlib.Core.List.{List, [], _∷_, _++_}
+use Prim.Native.Nat.{ℕ, _-_, _≤_, _<_}
+use native.Mathlib.Omega.{arith}
+use lib.Dec.{ltb}
+use lib.IntN.{ℤ}
+use lib.ListN.{length, take, drop, length-drop, length-take}
+use borrow.Author.Tests.{lt-ltb, le-ltb, ltb-false}
+use Rattle.lists.specs.Lists.{at}
+use Rattle.state.specs.declared.Outcome.{Outcome}
+use Rattle.state.specs.declared.Outcome.the-variants.{Accepted, RecordShort, BodyShort}
+use Rattle.state.specs.Outcome.{Row, row, firstMet, isAccepted}
+use Rattle.state.specs.State.{stateRows}
+use Rattle.record.specs.Bytes.{words}
+use Rattle.record.specs.Record.{distanceOf, numbersIn, trailerRows, recordVerdict}
+use Rattle.record.proofs.Rows.{stopped, passed}
+use Rattle.record.proofs.Trailers.{tail, tail-rows, distance-is}
+
+-- the body, as the code lends it
+abbrev pub lentBody : List ℕ → List ℕ
+lentBody b = take (length b - 8 - (length b - 402)) (drop (length b - 402) b)
+
+body-at : (b : List ℕ) (d : ℕ) → 402 ≤ length b → d ≡ 394 → lentBody b ≡ take d (drop (length b - 8 - d) b)
+body-at b d h e =
+    let k : length b - 8 - (length b - 402) ≡ d = omega arith in
+    let m : length b - 402 ≡ length b - 8 - d = omega arith in
+    ap₂ (λ (i j : ℕ). take i (drop j b)) k m
+
+module _ (b : List ℕ) where
+  -- rows 16 and 17 of the body, rows 15 to 17, rows 12 to 17
+  abbrev numberRows : List Row
+  numberRows = stateRows (at (numbersIn b) 164) (at (numbersIn b) 196)
+
+  abbrev bodyRows : List Row
+  bodyRows = row (ltb (length b - 8) (distanceOf b)) BodyShort ∷ numberRows
+
+  pub record-short : length b < 8 → RecordShort ≡ recordVerdict b
+  unfolding recordVerdict firstMet
+  record-short h = rw (lt-ltb _ _ h)
+
+  module _ (h : 8 ≤ length b) where
+    eight-bytes : firstMet (trailerRows b ++ bodyRows) ≡ recordVerdict b
+    unfolding recordVerdict firstMet
+    eight-bytes = rw (le-ltb _ _ h)
+
+    module _ (o : Outcome) (e : o ≡ firstMet (trailerRows (take (length b - (length b - 8)) (drop (length b - 8) b)))) where
+      trailer-told : o ≡ firstMet (trailerRows b)
+      trailer-told = e ∙ ap (λ (t : List ℕ). firstMet (trailerRows t)) (tail b (length b - 8)) ∙ tail-rows b h
+
+      pub trailer-refused : isAccepted o ≡ false → o ≡ recordVerdict b
+      trailer-refused n = trailer-told ∙ stopped (trailerRows b) bodyRows (rw trailer-told at n) ∙ eight-bytes
+
+      module _ (y : isAccepted o ≡ true) where
+        y′ : isAccepted (firstMet (trailerRows b)) ≡ true
+        y′ = rw trailer-told at y
+
+        rest : firstMet bodyRows ≡ recordVerdict b
+        rest = passed (trailerRows b) bodyRows (refl, (refl, (refl, tt))) y′ ∙ eight-bytes
+
+        pub body-short : length b < 402 → BodyShort ≡ recordVerdict b
+        unfolding firstMet
+        body-short k =
+            let d = distance-is b y′ in
+            let e : ltb (length b - 8) (distanceOf b) ≡ true = lt-ltb (length b - 8) (distanceOf b) (omega (arith, d)) in
+            ap (λ (t : Bool). cond t BodyShort (firstMet numberRows)) (sym e) ∙ rest
+
+        pub body-told : (r : Outcome) → 402 ≤ length b → r ≡ firstMet (stateRows (at (words (lentBody b)) 164) (at (words (lentBody b)) 196)) → r ≡ recordVerdict b
+        unfolding firstMet
+        body-told r k f =
+            let d = distance-is b y′ in
+            let e : ltb (length b - 8) (distanceOf b) ≡ false = le-ltb (length b - 8) (distanceOf b) (omega (arith, d)) in
+            f
+            ∙ ap (λ (l : List ℕ). firstMet (stateRows (at (words l) 164) (at (words l) 196))) (body-at b (distanceOf b) k d)
+            ∙ ap (λ (t : Bool). cond t BodyShort (firstMet numberRows)) (sym e)
+            ∙ rest

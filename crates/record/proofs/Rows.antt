@@ -1,0 +1,34 @@
+-- Rows that are tested after other rows. Assumes nothing.
+use mathlib.Core.Path.{_≡_, refl, sym, ap, _∙_}
+use mathlib.Core.Bool.{Bool, true, false, cond}
+use mathlib.Core.List.{List, [], _∷_, _++_}
+use Prim.Native.Nat.{ℕ}
+use native.Mathlib.Omega.{arith}
+use Rattle.state.specs.declared.Outcome.{Outcome}
+use Rattle.state.specs.Outcome.{Row, row, firstMet, isAccepted}
+
+pub true-false : {A : Type 0} → true ≡ false → A
+true-false e = let z : _≡_ {A = ℕ} 0 1 = cc in absurd (omega arith)
+
+-- a row that is met turns back
+abbrev pub Refusals : List Row → Type 0
+Refusals [] = Unit {0}
+Refusals (r ∷ rows) = (isAccepted (r .refusal) ≡ false) × Refusals rows
+
+stop : (b : Bool) (o x y : Outcome) → (isAccepted x ≡ false → x ≡ y) → isAccepted (cond b o x) ≡ false → cond b o x ≡ cond b o y
+stop true o x y k h = refl
+stop false o x y k h = k h
+
+pub stopped : (xs ys : List Row) → isAccepted (firstMet xs) ≡ false → firstMet xs ≡ firstMet (xs ++ ys)
+unfolding firstMet
+stopped [] ys h = true-false h
+stopped (r ∷ xs) ys h = stop (r .met) (r .refusal) (firstMet xs) (firstMet (xs ++ ys)) (stopped xs ys) h
+
+pass : (b : Bool) (o x y z : Outcome) → isAccepted o ≡ false → (isAccepted x ≡ true → z ≡ y) → isAccepted (cond b o x) ≡ true → z ≡ cond b o y
+pass true o x y z f k h = true-false (sym h ∙ f)
+pass false o x y z f k h = k h
+
+pub passed : (xs ys : List Row) → Refusals xs → isAccepted (firstMet xs) ≡ true → firstMet ys ≡ firstMet (xs ++ ys)
+unfolding firstMet
+passed [] ys f h = refl
+passed (r ∷ xs) ys f h = pass (r .met) (r .refusal) (firstMet xs) (firstMet (xs ++ ys)) (firstMet ys) (f .0) (passed xs ys (f .1)) h

@@ -1,0 +1,38 @@
+-- A part of bytes is a part of their numbers. Assumes nothing.
+use mathlib.Core.Path.{_≡_, refl, ap, ap₂, sym, _∙_}
+use mathlib.Core.List.{List, [], _∷_}
+use Prim.Native.Nat.{ℕ, zero, suc, _+_, _*_, _<_}
+use native.Mathlib.Omega.{arith}
+use lib.IntN.{ℤ}
+use lib.ListN.{length, take, drop, getD}
+use Rattle.lists.specs.Lists.{at}
+use Rattle.record.specs.Bytes.{signed16, unsigned, words}
+
+twice : (n : ℕ) → 2 * suc n ≡ suc (suc (2 * n))
+twice n = omega arith
+
+words-drop : (m : ℕ) (b : List ℕ) → words (drop (2 * m) b) ≡ drop m (words b)
+unfolding words
+words-drop zero b = refl
+words-drop (suc m) [] = ap (λ (k : ℕ). words (drop k [])) (twice m)
+words-drop (suc m) (x ∷ []) = ap (λ (k : ℕ). words (drop k (x ∷ []))) (twice m)
+words-drop (suc m) (x ∷ y ∷ b) = ap (λ (k : ℕ). words (drop k (x ∷ y ∷ b))) (twice m) ∙ words-drop m b
+
+words-take : (n : ℕ) (b : List ℕ) → words (take (2 * n) b) ≡ take n (words b)
+unfolding words
+words-take zero b = refl
+words-take (suc n) [] = ap (λ (k : ℕ). words (take k [])) (twice n)
+words-take (suc n) (x ∷ []) = ap (λ (k : ℕ). words (take k (x ∷ []))) (twice n)
+words-take (suc n) (x ∷ y ∷ b) = ap (λ (k : ℕ). words (take k (x ∷ y ∷ b))) (twice n) ∙ ap (λ (l : List ℤ). signed16 (unsigned x y) ∷ l) (words-take n b)
+
+pub words-part : (b : List ℕ) (m n : ℕ) → words (take (2 * n) (drop (2 * m) b)) ≡ take n (drop m (words b))
+words-part b m n = words-take n (drop (2 * m) b) ∙ ap (take n) (words-drop m b)
+
+pub at-words : (b : List ℕ) (k : ℕ) → 2 * k + 1 < length b → signed16 (unsigned (getD b (2 * k) 0) (getD b (2 * k + 1) 0)) ≡ at (words b) k
+unfolding words
+at-words [] k h = absurd (omega arith)
+at-words (x ∷ []) k h = absurd (omega arith)
+at-words (x ∷ y ∷ b) zero h = refl
+at-words (x ∷ y ∷ b) (suc k) h =
+    let e : 2 * suc k + 1 ≡ suc (suc (2 * k + 1)) = omega arith in
+    ap₂ (λ (i j : ℕ). signed16 (unsigned (getD (x ∷ y ∷ b) i 0) (getD (x ∷ y ∷ b) j 0))) (twice k) e ∙ at-words b k (omega arith)
