@@ -9,13 +9,15 @@ use lib.IntN.{ℤ}
 use lib.ListN.{length, take, drop, length-drop, length-take}
 use borrow.Author.Tests.{lt-ltb, le-ltb, ltb-false}
 use Rattle.lists.specs.Lists.{at}
+use Rattle.state.specs.declared.State.{State}
 use Rattle.state.specs.declared.Outcome.{Outcome}
 use Rattle.state.specs.declared.Outcome.the-variants.{Accepted, RecordShort, BodyShort}
 use Rattle.state.specs.Outcome.{Row, row, firstMet, isAccepted}
-use Rattle.state.specs.State.{stateRows}
+use Rattle.state.specs.State.{stateRows, stateOf}
 use Rattle.record.specs.Bytes.{words}
-use Rattle.record.specs.Record.{distanceOf, numbersIn, trailerRows, recordVerdict}
-use Rattle.record.proofs.Rows.{stopped, passed}
+use Rattle.record.specs.declared.Answer.{Answer}
+use Rattle.record.specs.Record.{distanceOf, noteLength, numbersIn, trailerRows, recordRows, recordVerdict, zeroState, readCall}
+use Rattle.record.proofs.Rows.{stopped, passed, first-unmet, both-accept}
 use Rattle.record.proofs.Trailers.{tail, tail-rows, distance-is}
 
 -- the body, as the code lends it
@@ -75,3 +77,56 @@ module _ (b : List ℕ) where
             ∙ ap (λ (l : List ℕ). firstMet (stateRows (at (words l) 164) (at (words l) 196))) (body-at b (distanceOf b) k d)
             ∙ ap (λ (t : Bool). cond t BodyShort (firstMet numberRows)) (sym e)
             ∙ rest
+
+  -- ---- an accepted record
+  module _ (y : isAccepted (recordVerdict b) ≡ true) where
+    parts : (isAccepted (firstMet (trailerRows b)) ≡ true) × (isAccepted (firstMet bodyRows) ≡ true)
+    unfolding recordVerdict
+    parts =
+        both-accept (trailerRows b) bodyRows (refl, (refl, (refl, tt)))
+        (first-unmet (row (ltb (length b) 8) RecordShort) (trailerRows b ++ bodyRows) refl y .1)
+
+    pub trailer-accepted : isAccepted (firstMet (trailerRows b)) ≡ true
+    trailer-accepted = parts .0
+
+    pub distance-accepted : distanceOf b ≡ 394
+    distance-accepted = distance-is b trailer-accepted
+
+    pub whole : 402 ≤ length b
+    unfolding recordVerdict
+    whole =
+        let s : 8 ≤ length b = ltb-false (length b) 8 (first-unmet (row (ltb (length b) 8) RecordShort) (trailerRows b ++ bodyRows) refl y .0) in
+        let k : distanceOf b ≤ length b - 8 = ltb-false (length b - 8) (distanceOf b) (first-unmet (row (ltb (length b - 8) (distanceOf b)) BodyShort) numberRows refl (parts .1) .0) in
+        omega (arith, s, k, distance-accepted)
+
+    pub body-length : length (lentBody b) ≡ 394
+    body-length = let h = whole in simp (length-take, length-drop) (omega arith)
+
+  -- ---- the call, of what the verdict is found to be
+  module _ (o : Outcome) (e : o ≡ recordVerdict b) where
+    module _ (y : isAccepted o ≡ true) where
+      y″ : isAccepted (recordVerdict b) ≡ true
+      y″ = rw e at y
+
+      pub answer-accepted : (s : State) → s ≡ stateOf (words (lentBody b)) → _≡_ {A = Answer} (record { outcome = o; state = s }) (readCall b .answer)
+      unfolding readCall
+      answer-accepted s f =
+          rw (← e, y)
+          (ap (λ (t : State). record { outcome = o; state = t }) (f ∙ ap (λ (l : List ℕ). stateOf (words l)) (body-at b (distanceOf b) (whole y″) (distance-accepted y″))))
+
+      pub note-accepted : take (length b - 402) b ≡ readCall b .note
+      unfolding readCall
+      note-accepted =
+          let w = whole y″ in
+          let d = distance-accepted y″ in
+          let k : length b - 402 ≡ noteLength b = omega (arith, d) in
+          rw (← e, y) (ap (λ (n : ℕ). take n b) k)
+
+    module _ (n : isAccepted o ≡ false) where
+      pub answer-refused : (s : State) → s ≡ zeroState → _≡_ {A = Answer} (record { outcome = o; state = s }) (readCall b .answer)
+      unfolding readCall
+      answer-refused s f = rw (← e, n) (ap (λ (t : State). record { outcome = o; state = t }) f)
+
+      pub note-refused : take 0 b ≡ readCall b .note
+      unfolding readCall
+      note-refused = rw (← e, n)

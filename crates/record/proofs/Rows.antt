@@ -32,3 +32,19 @@ pub passed : (xs ys : List Row) → Refusals xs → isAccepted (firstMet xs) ≡
 unfolding firstMet
 passed [] ys f h = refl
 passed (r ∷ xs) ys f h = pass (r .met) (r .refusal) (firstMet xs) (firstMet (xs ++ ys)) (firstMet ys) (f .0) (passed xs ys (f .1)) h
+
+-- ---- what acceptance says: no row is met
+unmet : (b : Bool) (o x : Outcome) → isAccepted o ≡ false → isAccepted (cond b o x) ≡ true → (b ≡ false) × (isAccepted x ≡ true)
+unmet true o x f h = true-false (sym h ∙ f)
+unmet false o x f h = (refl, h)
+
+pub first-unmet : (r : Row) (xs : List Row) → isAccepted (r .refusal) ≡ false → isAccepted (firstMet (r ∷ xs)) ≡ true → (r .met ≡ false) × (isAccepted (firstMet xs) ≡ true)
+unfolding firstMet
+first-unmet r xs f h = unmet (r .met) (r .refusal) (firstMet xs) f h
+
+pub both-accept : (xs ys : List Row) → Refusals xs → isAccepted (firstMet (xs ++ ys)) ≡ true → (isAccepted (firstMet xs) ≡ true) × (isAccepted (firstMet ys) ≡ true)
+unfolding firstMet
+both-accept [] ys f h = (refl, h)
+both-accept (r ∷ xs) ys f h =
+    let u = unmet (r .met) (r .refusal) (firstMet (xs ++ ys)) (f .0) h in
+    let k = both-accept xs ys (f .1) (u .1) in (rw (u .0) (k .0), k .1)

@@ -7,7 +7,7 @@ ghost use Rattle.lists.specs.Lists.{at};
 ghost use Rattle.state.specs.Outcome.{firstMet};
 ghost use Rattle.state.specs.State.{stateRows, stateOf};
 ghost use Rattle.record.specs.Bytes.{signed16, bits16, unsigned, words, bytesOf};
-ghost use Rattle.record.specs.Record.{trailerRows, recordVerdict, readCall, told, encoded, written, writeCall};
+ghost use Rattle.record.specs.Record.{trailerRows, zeroState, recordVerdict, readCall, told, encoded, written, writeCall};
 use basicop::Q14;
 use decoder::Core;
 use energy::GainControl;
@@ -146,4 +146,109 @@ fn verdict(bytes: &[u8]) -> Outcome
         return validate_body(&bytes[start..end]);
     }
     outcome
+}
+
+// The body's numbers 0 to 174.
+fn core_in(body: &[u8]) -> Core
+    requires { ⌜ length (now body) ≡ 394 ⌝ }
+    ensures { λ r. ⌜ r ≡ stateOf (words (now (body .entry))) .core ⌝ }
+{
+    let mut lsp = [0i16; 10];
+    fill(&mut lsp, &body[0..20]);
+    let mut past = [0i16; 154];
+    fill(&mut past, &body[20..328]);
+    let sharpening = word(body[328], body[329]);
+    let mut history = [0i16; 10];
+    fill(&mut history, &body[330..350]);
+    Core {
+        lsp: lsp,
+        past: past,
+        sharpening: Q14(sharpening),
+        history: history,
+    }
+}
+
+// The body's numbers 175 to 196.
+fn post_in(body: &[u8]) -> Postfilter
+    requires { ⌜ length (now body) ≡ 394 ⌝ }
+    ensures { λ r. ⌜ r ≡ stateOf (words (now (body .entry))) .post ⌝ }
+{
+    let mut input_history = [0i16; 10];
+    fill(&mut input_history, &body[350..370]);
+    let mut synthesis_history = [0i16; 10];
+    fill(&mut synthesis_history, &body[370..390]);
+    let previous_residual = word(body[390], body[391]);
+    let previous_gain = word(body[392], body[393]);
+    Postfilter {
+        input_history: input_history,
+        synthesis_history: synthesis_history,
+        previous_residual: previous_residual,
+        gain: GainControl {
+            previous_gain: previous_gain,
+        },
+    }
+}
+
+fn state_in(body: &[u8]) -> State
+    requires { ⌜ length (now body) ≡ 394 ⌝ }
+    ensures { λ r. ⌜ r ≡ stateOf (words (now (body .entry))) ⌝ }
+{
+    let core = core_in(body);
+    let post = post_in(body);
+    State {
+        core: core,
+        post: post,
+    }
+}
+
+fn zero_state() -> State
+    ensures { λ r. ⌜ r ≡ zeroState ⌝ }
+{
+    State {
+        core: Core {
+            lsp: [0; 10],
+            past: [0; 154],
+            sharpening: Q14(0),
+            history: [0; 10],
+        },
+        post: Postfilter {
+            input_history: [0; 10],
+            synthesis_history: [0; 10],
+            previous_residual: 0,
+            gain: GainControl { previous_gain: 0 },
+        },
+    }
+}
+
+fn answer_of(bytes: &[u8]) -> Answer
+    ensures { λ r. ⌜ r ≡ readCall (now (bytes .entry)) .answer ⌝ }
+{
+    let outcome = verdict(bytes);
+    if outcome.accepted() {
+        let n = bytes.len();
+        let start = n - RECORD_BYTES;
+        let end = n - 8;
+        let state = state_in(&bytes[start..end]);
+        return Answer {
+            outcome: outcome,
+            state: state,
+        };
+    }
+    let state = zero_state();
+    Answer {
+        outcome: outcome,
+        state: state,
+    }
+}
+
+// What stands before the body: part of the lent bytes, none of them where the read is refused.
+fn note(bytes: &[u8]) -> &[u8]
+    ensures { λ r. ⌜ (now r ≡ readCall (now (bytes .entry)) .note) × (ptr r ≡ ptr (bytes .entry)) ⌝ }
+{
+    let outcome = verdict(bytes);
+    if outcome.accepted() {
+        let n = bytes.len() - RECORD_BYTES;
+        return &bytes[..n];
+    }
+    &bytes[..0]
 }
