@@ -252,3 +252,15 @@ fn note(bytes: &[u8]) -> &[u8]
     }
     &bytes[..0]
 }
+
+// Reads a record. The note is the part of the lent bytes before the body, not a copy.
+pub fn read<'a>(bytes: &'a [u8]) -> Reading<'a>
+    ensures { λ r. ⌜ (told (r .answer) (now (r .note)) ≡ readCall (now (bytes .entry))) × (ptr (r .note) ≡ ptr (bytes .entry)) ⌝ }
+{
+    let answer = answer_of(bytes);
+    let note = note(bytes);
+    Reading {
+        answer: answer,
+        note: note,
+    }
+}
