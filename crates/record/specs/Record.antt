@@ -105,9 +105,12 @@ readCall b =
     (told (record { outcome = o; state = zeroState }) [])
 
 -- ---- the writer
+abbrev pub trailerBytes : List ℕ
+trailerBytes = 0x4D ∷ 0x37 ∷ bytesOf (pos (current .version) ∷ pos (current .distance) ∷ pos (current .count) ∷ [])
+
 -- the bytes of a state's record, without a note
 unfoldable pub encoded : State → List ℕ
-encoded s = bytesOf (numbersOf s) ++ (0x4D ∷ 0x37 ∷ bytesOf (pos (current .version) ∷ pos (current .distance) ∷ pos (current .count) ∷ []))
+encoded s = bytesOf (numbersOf s) ++ trailerBytes
 
 -- as many as they are
 abbrev pub recordLength : ℕ

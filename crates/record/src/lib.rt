@@ -1,5 +1,6 @@
 // The handover record: its reader and its writer.
 ghost use mathlib.Core.Path.{_≡_};
+ghost use mathlib.Core.List.{[], _∷_, _++_};
 ghost use Prim.Native.Nat.{_+_, _-_, _*_, _≤_, _<_};
 ghost use lib.ListN.{length, take, drop};
 ghost use denote.Ref.{ptr};
@@ -7,7 +8,7 @@ ghost use Rattle.lists.specs.Lists.{at};
 ghost use Rattle.state.specs.Outcome.{firstMet};
 ghost use Rattle.state.specs.State.{stateRows, stateOf};
 ghost use Rattle.record.specs.Bytes.{signed16, bits16, unsigned, words, bytesOf};
-ghost use Rattle.record.specs.Record.{trailerRows, zeroState, recordVerdict, readCall, told, encoded, written, writeCall};
+ghost use Rattle.record.specs.Record.{trailerRows, zeroState, recordVerdict, readCall, told, trailerBytes, encoded, written, writeCall};
 use basicop::Q14;
 use decoder::Core;
 use energy::GainControl;
@@ -263,4 +264,71 @@ pub fn read<'a>(bytes: &'a [u8]) -> Reading<'a>
         answer: answer,
         note: note,
     }
+}
+
+// ---- the writer
+// The body's numbers 0 to 174.
+fn write_core(core: Core, out: &mut [u8])
+    requires { ⌜ length (now out) ≡ 350 ⌝ }
+    ensures { λ _. ⌜ now (out .exit) ≡ bytesOf (core .lsp ++ (core .past ++ (core .sharpening .0 ∷ core .history))) ⌝ }
+{
+    let lsp = core.lsp;
+    put(&mut out[0..20], &lsp);
+    let past = core.past;
+    put(&mut out[20..328], &past);
+    let sharpening = core.sharpening;
+    let one = [sharpening.0];
+    put(&mut out[328..330], &one);
+    let history = core.history;
+    put(&mut out[330..350], &history);
+}
+
+// The body's numbers 175 to 196.
+fn write_post(post: Postfilter, out: &mut [u8])
+    requires { ⌜ length (now out) ≡ 44 ⌝ }
+    ensures { λ _. ⌜ now (out .exit) ≡ bytesOf (post .«input_history» ++ (post .«synthesis_history» ++ (post .«previous_residual» ∷ post .gain .«previous_gain» ∷ []))) ⌝ }
+{
+    let input_history = post.input_history;
+    put(&mut out[0..20], &input_history);
+    let synthesis_history = post.synthesis_history;
+    put(&mut out[20..40], &synthesis_history);
+    let gain = post.gain;
+    let two = [post.previous_residual, gain.previous_gain];
+    put(&mut out[40..44], &two);
+}
+
+fn write_trailer(out: &mut [u8])
+    requires { ⌜ length (now out) ≡ 8 ⌝ }
+    ensures { λ _. ⌜ now (out .exit) ≡ trailerBytes ⌝ }
+{
+    out[0] = 0x4D;
+    out[1] = 0x37;
+    let fields = [1i16, 394, 197];
+    put(&mut out[2..8], &fields);
+}
+
+fn write_record(state: State, out: &mut [u8])
+    requires { ⌜ length (now out) ≡ 402 ⌝ }
+    ensures { λ _. ⌜ now (out .exit) ≡ encoded state ⌝ }
+{
+    let core = state.core;
+    write_core(core, &mut out[0..350]);
+    let post = state.post;
+    write_post(post, &mut out[350..394]);
+    write_trailer(&mut out[394..402]);
+}
+
+// Writes the record of a state, without a note.
+pub fn write(state: State, out: &mut [u8]) -> Outcome
+    ensures { λ r. ⌜ written r (now (out .exit)) ≡ writeCall state (now (out .entry)) ⌝ }
+{
+    if out.len() != RECORD_BYTES {
+        return Outcome::OutputLength;
+    }
+    let outcome = state::validate(state);
+    if outcome.accepted() {
+        write_record(state, out);
+        return outcome;
+    }
+    outcome
 }
