@@ -1,8 +1,8 @@
--- Numbers of 16 bits and their bytes: one number, and loops over them. Assumes nothing.
+-- Numbers of 16 bits and their bytes: one number, loops over them, and both ways after one another. Assumes nothing.
 use mathlib.Core.Path.{_≡_, refl, ap, sym, _∙_}
 use mathlib.Core.Bool.{Bool, true, false, cond}
 use mathlib.Core.List.{List, [], _∷_, _++_, append-assoc, append-nil}
-use Prim.Native.Nat.{ℕ, suc, _+_, _-_, _*_, _/_, _%_, _^_, _≤_, _<_}
+use Prim.Native.Nat.{ℕ, zero, suc, _+_, _-_, _*_, _/_, _%_, _^_, _≤_, _<_}
 use native.Mathlib.Numerals.{add-one}
 use native.Mathlib.Omega.{arith}
 use lib.Dec.{T, ltb}
@@ -10,9 +10,9 @@ use lib.IntN.{ℤ, pos, negsuc, natAbs}
 use lib.ListN.{length, take, drop, set, getD, drop-of-length-le, length-set}
 use lib.Seq.{drop-cons, take-suc-set, take-all}
 use lib.Signed.{leZ, mag, nonNeg}
-use borrow.Author.Tests.{leb-false}
+use borrow.Author.Tests.{leb-false, ltb-false, lt-ltb, le-ltb}
 use mir.Syntax.{w16}
-use mir.Val.{toZ, ofZ, sel, Fits}
+use mir.Val.{toZ, ofZ, sel, Fits, SFits}
 use mir.ValLaws.{toZ-pos}
 use Rattle.lists.specs.Lists.{at, minus}
 use Rattle.lists.proofs.Signed.{back}
@@ -99,3 +99,41 @@ put-more dst src i j n h k e inv =
 pub put-done : (dst : List ℕ) (src : List ℤ) (i j : ℕ) → length src ≤ i → length dst ≤ j → take j dst ++ bytesOf (drop i src) ≡ bytesOf src → dst ≡ bytesOf src
 unfolding bytesOf
 put-done dst src i j hi hj inv = sym (ap (λ (l : List ℤ). take j dst ++ bytesOf l) (drop-of-length-le src hi) ∙ whole-then-nothing dst j hj) ∙ inv
+
+-- ---- there and back
+pub number-back : (x : ℤ) → mag x < 2 ^ 15 → signed16 (unsigned (bits16 x % 256) (bits16 x / 256)) ≡ x
+number-back (pos n) h = let e : n % 256 + 256 * (n / 256) ≡ n = omega arith in ap signed16 e ∙ rw (lt-ltb n 32768 h)
+number-back (negsuc n) h =
+    let m : ℕ = 65535 - n in
+    let e : m % 256 + 256 * (m / 256) ≡ m = omega arith in
+    let k : 65536 - m ≡ suc n = omega arith in
+    let l : 32768 ≤ m = omega arith in
+    ap signed16 e ∙ rw (le-ltb m 32768 l) (ap minus k)
+
+pub bits-back : (n : ℕ) → n < 65536 → bits16 (signed16 n) ≡ n
+bits-back n h = go (ltb n 32768) refl
+  where
+    go : (b : Bool) → ltb n 32768 ≡ b → bits16 (signed16 n) ≡ n
+    go true e = rw e
+    go false e =
+        let l : 32768 ≤ n = ltb-false n 32768 e in
+        let k : 65536 - n ≡ suc (65535 - n) = omega arith in
+        let m : 65535 - (65535 - n) ≡ n = omega arith in
+        rw (e, k) m
+
+pub words-back : (xs : List ℤ) → ((i : ℕ) → SFits w16 (at xs i)) → words (bytesOf xs) ≡ xs
+unfolding words bytesOf
+words-back [] f = refl
+words-back (x ∷ xs) f = λ i. number-back x (f 0 .sfits) i ∷ words-back xs (λ j. f (suc j)) i
+
+bytes-of-pair : (x y : ℕ) → x < 256 → y < 256 → (bits16 (signed16 (unsigned x y)) % 256 ≡ x) × (bits16 (signed16 (unsigned x y)) / 256 ≡ y)
+bytes-of-pair x y h k =
+    let l : x + 256 * y < 65536 = omega arith in
+    rw (bits-back (x + 256 * y) l) (omega arith, omega arith)
+
+pub bytes-back : (n : ℕ) (b : List ℕ) → length b ≡ 2 * n → ((i : ℕ) → getD b i 0 < 256) → bytesOf (words b) ≡ b
+unfolding words bytesOf
+bytes-back n [] l f = refl
+bytes-back n (x ∷ []) l f = absurd (omega (arith, l))
+bytes-back zero (x ∷ y ∷ b) l f = absurd (omega (arith, l))
+bytes-back (suc n) (x ∷ y ∷ b) l f = let p = bytes-of-pair x y (f 0) (f 1) in λ i. p .0 i ∷ p .1 i ∷ bytes-back n b (omega (arith, l)) (λ j. f (suc (suc j))) i

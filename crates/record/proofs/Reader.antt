@@ -5,18 +5,17 @@ use mathlib.Core.List.{List, [], _∷_, _++_}
 use Prim.Native.Nat.{ℕ, _-_, _≤_, _<_}
 use native.Mathlib.Omega.{arith}
 use lib.Dec.{ltb}
-use lib.IntN.{ℤ}
 use lib.ListN.{length, take, drop, length-drop, length-take}
 use borrow.Author.Tests.{lt-ltb, le-ltb, ltb-false}
 use Rattle.lists.specs.Lists.{at}
 use Rattle.state.specs.declared.State.{State}
 use Rattle.state.specs.declared.Outcome.{Outcome}
-use Rattle.state.specs.declared.Outcome.the-variants.{Accepted, RecordShort, BodyShort}
+use Rattle.state.specs.declared.Outcome.the-variants.{RecordShort, BodyShort}
 use Rattle.state.specs.Outcome.{Row, row, firstMet, isAccepted}
 use Rattle.state.specs.State.{stateRows, stateOf}
 use Rattle.record.specs.Bytes.{words}
 use Rattle.record.specs.declared.Answer.{Answer}
-use Rattle.record.specs.Record.{distanceOf, noteLength, numbersIn, trailerRows, recordRows, recordVerdict, zeroState, readCall}
+use Rattle.record.specs.Record.{distanceOf, noteLength, noteOf, numbersIn, trailerRows, recordVerdict, zeroState, told, readCall}
 use Rattle.record.proofs.Rows.{stopped, passed, first-unmet, both-accept}
 use Rattle.record.proofs.Trailers.{tail, tail-rows, distance-is}
 
@@ -24,7 +23,7 @@ use Rattle.record.proofs.Trailers.{tail, tail-rows, distance-is}
 abbrev pub lentBody : List ℕ → List ℕ
 lentBody b = take (length b - 8 - (length b - 402)) (drop (length b - 402) b)
 
-body-at : (b : List ℕ) (d : ℕ) → 402 ≤ length b → d ≡ 394 → lentBody b ≡ take d (drop (length b - 8 - d) b)
+pub body-at : (b : List ℕ) (d : ℕ) → 402 ≤ length b → d ≡ 394 → lentBody b ≡ take d (drop (length b - 8 - d) b)
 body-at b d h e =
     let k : length b - 8 - (length b - 402) ≡ d = omega arith in
     let m : length b - 402 ≡ length b - 8 - d = omega arith in
@@ -47,6 +46,23 @@ module _ (b : List ℕ) where
     unfolding recordVerdict firstMet
     eight-bytes = rw (le-ltb _ _ h)
 
+    module _ (y : isAccepted (firstMet (trailerRows b)) ≡ true) where
+      rest : firstMet bodyRows ≡ recordVerdict b
+      rest = passed (trailerRows b) bodyRows (refl, (refl, (refl, tt))) y ∙ eight-bytes
+
+      too-short : length b < 402 → BodyShort ≡ recordVerdict b
+      unfolding firstMet
+      too-short k =
+          let e : ltb (length b - 8) (distanceOf b) ≡ true = lt-ltb (length b - 8) (distanceOf b) (omega (arith, distance-is b y)) in
+          ap (λ (t : Bool). cond t BodyShort (firstMet numberRows)) (sym e) ∙ rest
+
+      pub numbers-told : 402 ≤ length b → firstMet numberRows ≡ recordVerdict b
+      unfolding firstMet
+      numbers-told k =
+          let e : ltb (length b - 8) (distanceOf b) ≡ false = le-ltb (length b - 8) (distanceOf b) (omega (arith, distance-is b y)) in
+          ap (λ (t : Bool). cond t BodyShort (firstMet numberRows)) (sym e) ∙ rest
+
+    -- the trailer as the code lends it
     module _ (o : Outcome) (e : o ≡ firstMet (trailerRows (take (length b - (length b - 8)) (drop (length b - 8) b)))) where
       trailer-told : o ≡ firstMet (trailerRows b)
       trailer-told = e ∙ ap (λ (t : List ℕ). firstMet (trailerRows t)) (tail b (length b - 8)) ∙ tail-rows b h
@@ -54,29 +70,15 @@ module _ (b : List ℕ) where
       pub trailer-refused : isAccepted o ≡ false → o ≡ recordVerdict b
       trailer-refused n = trailer-told ∙ stopped (trailerRows b) bodyRows (rw trailer-told at n) ∙ eight-bytes
 
-      module _ (y : isAccepted o ≡ true) where
-        y′ : isAccepted (firstMet (trailerRows b)) ≡ true
-        y′ = rw trailer-told at y
+      pub body-short : isAccepted o ≡ true → length b < 402 → BodyShort ≡ recordVerdict b
+      body-short y k = too-short (rw trailer-told at y) k
 
-        rest : firstMet bodyRows ≡ recordVerdict b
-        rest = passed (trailerRows b) bodyRows (refl, (refl, (refl, tt))) y′ ∙ eight-bytes
-
-        pub body-short : length b < 402 → BodyShort ≡ recordVerdict b
-        unfolding firstMet
-        body-short k =
-            let d = distance-is b y′ in
-            let e : ltb (length b - 8) (distanceOf b) ≡ true = lt-ltb (length b - 8) (distanceOf b) (omega (arith, d)) in
-            ap (λ (t : Bool). cond t BodyShort (firstMet numberRows)) (sym e) ∙ rest
-
-        pub body-told : (r : Outcome) → 402 ≤ length b → r ≡ firstMet (stateRows (at (words (lentBody b)) 164) (at (words (lentBody b)) 196)) → r ≡ recordVerdict b
-        unfolding firstMet
-        body-told r k f =
-            let d = distance-is b y′ in
-            let e : ltb (length b - 8) (distanceOf b) ≡ false = le-ltb (length b - 8) (distanceOf b) (omega (arith, d)) in
-            f
-            ∙ ap (λ (l : List ℕ). firstMet (stateRows (at (words l) 164) (at (words l) 196))) (body-at b (distanceOf b) k d)
-            ∙ ap (λ (t : Bool). cond t BodyShort (firstMet numberRows)) (sym e)
-            ∙ rest
+      pub body-told : isAccepted o ≡ true → (r : Outcome) → 402 ≤ length b → r ≡ firstMet (stateRows (at (words (lentBody b)) 164) (at (words (lentBody b)) 196)) → r ≡ recordVerdict b
+      body-told y r k f =
+          let z = rw trailer-told at y in
+          f
+          ∙ ap (λ (l : List ℕ). firstMet (stateRows (at (words l) 164) (at (words l) 196))) (body-at b (distanceOf b) k (distance-is b z))
+          ∙ numbers-told z k
 
   -- ---- an accepted record
   module _ (y : isAccepted (recordVerdict b) ≡ true) where
@@ -114,6 +116,10 @@ module _ (b : List ℕ) where
           rw (← e, y)
           (ap (λ (t : State). record { outcome = o; state = t }) (f ∙ ap (λ (l : List ℕ). stateOf (words l)) (body-at b (distanceOf b) (whole y″) (distance-accepted y″))))
 
+      pub state-accepted : stateOf (numbersIn b) ≡ readCall b .answer .state
+      unfolding readCall
+      state-accepted = rw (← e, y)
+
       pub note-accepted : take (length b - 402) b ≡ readCall b .note
       unfolding readCall
       note-accepted =
@@ -130,3 +136,11 @@ module _ (b : List ℕ) where
       pub note-refused : take 0 b ≡ readCall b .note
       unfolding readCall
       note-refused = rw (← e, n)
+
+outcome-of : (t : Bool) (o : Outcome) (r s : State) (m n : List ℕ) → cond t (told (record { outcome = o; state = r }) m) (told (record { outcome = o; state = s }) n) .answer .outcome ≡ o
+outcome-of true o r s m n = refl
+outcome-of false o r s m n = refl
+
+pub outcome-is : (b : List ℕ) → readCall b .answer .outcome ≡ recordVerdict b
+unfolding readCall
+outcome-is b = outcome-of (isAccepted (recordVerdict b)) (recordVerdict b) (stateOf (numbersIn b)) zeroState (noteOf b) []

@@ -1,11 +1,11 @@
 -- Rows that are tested after other rows. Assumes nothing.
-use mathlib.Core.Path.{_≡_, refl, sym, ap, _∙_}
+use mathlib.Core.Path.{_≡_, refl, sym, _∙_}
 use mathlib.Core.Bool.{Bool, true, false, cond}
 use mathlib.Core.List.{List, [], _∷_, _++_}
 use Prim.Native.Nat.{ℕ}
 use native.Mathlib.Omega.{arith}
 use Rattle.state.specs.declared.Outcome.{Outcome}
-use Rattle.state.specs.Outcome.{Row, row, firstMet, isAccepted}
+use Rattle.state.specs.Outcome.{Row, firstMet, isAccepted}
 
 pub true-false : {A : Type 0} → true ≡ false → A
 true-false e = let z : _≡_ {A = ℕ} 0 1 = cc in absurd (omega arith)

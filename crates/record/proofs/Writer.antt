@@ -1,13 +1,12 @@
 -- A record is written part by part, and the writer's definition, case by case. Assumes nothing.
 use mathlib.Core.Path.{_≡_, refl, ap, ap₂, sym, _∙_}
-use mathlib.Core.Bool.{Bool, true, false}
+use mathlib.Core.Bool.{true, false}
 use mathlib.Core.List.{List, [], _∷_, _++_, append-assoc}
-use Prim.Native.Nat.{ℕ, suc, _+_, _-_, _*_, _≤_}
+use Prim.Native.Nat.{ℕ, _+_, _-_, _*_, _≤_}
 use native.Mathlib.Omega.{arith}
-use lib.Dec.{eqb}
 use lib.IntN.{ℤ, pos}
 use lib.ListN.{length, take, drop, set, length-drop, length-append}
-use lib.Seq.{take-all, take-at, length-take-le}
+use lib.Seq.{take-all, take-at}
 use borrow.Rule.Slice.PartMut.{putMid}
 use borrow.Author.Tests.{eq-eqb, ne-eqb}
 use Rattle.state.specs.declared.State.{State}
@@ -15,7 +14,7 @@ use Rattle.state.specs.declared.Outcome.{Outcome}
 use Rattle.state.specs.declared.Outcome.the-variants.{OutputLength}
 use Rattle.state.specs.Outcome.{firstMet, isAccepted}
 use Rattle.state.specs.State.{stateVerdict, numbersOf}
-use Rattle.record.specs.Bytes.{bits16, bytesOf}
+use Rattle.record.specs.Bytes.{bytesOf}
 use Rattle.record.specs.Record.{trailerBytes, encoded, writeRows, written, writeCall}
 
 -- ---- the bytes of numbers

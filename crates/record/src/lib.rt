@@ -1,8 +1,8 @@
 // The handover record: its reader and its writer.
 ghost use mathlib.Core.Path.{_≡_};
 ghost use mathlib.Core.List.{[], _∷_, _++_};
-ghost use Prim.Native.Nat.{_+_, _-_, _*_, _≤_, _<_};
-ghost use lib.ListN.{length, take, drop};
+ghost use Prim.Native.Nat.{_*_};
+ghost use lib.ListN.{length};
 ghost use denote.Ref.{ptr};
 ghost use Rattle.lists.specs.Lists.{at};
 ghost use Rattle.state.specs.Outcome.{firstMet};

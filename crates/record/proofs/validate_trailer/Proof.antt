@@ -1,6 +1,5 @@
 use borrow.Author.Needs.{needs}
-use Prim.Native.Nat.{ℕ}
-use mathlib.Core.Path.{_≡_, sym, _∙_}
+use mathlib.Core.Path.{sym, _∙_}
 use denote.Ref.{now}
 use Rattle.record.proofs.Trailers.{first-differs, second-differs, version-differs, distance-differs, count-differs, trailer-passes}
 use Rattle.record.proofs.validate_trailer.Statement.{statement}

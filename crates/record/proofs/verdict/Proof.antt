@@ -1,5 +1,5 @@
 use borrow.Author.Needs.{needs}
-use mathlib.Core.Path.{_≡_, sym, _∙_}
+use mathlib.Core.Path.{sym, _∙_}
 use denote.Ref.{now}
 use Rattle.record.proofs.Reader.{record-short, trailer-refused, body-short, body-told}
 use Rattle.record.proofs.verdict.Statement.{statement}

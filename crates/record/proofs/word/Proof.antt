@@ -1,5 +1,4 @@
 use mathlib.Core.Path.{ap, _∙_}
-use native.Mathlib.Omega.{arith}
 use borrow.Author.Needs.{needs}
 use Rattle.record.specs.Bytes.{signed16}
 use Rattle.record.proofs.Bytes.{signed-is, flipped-twice}

@@ -1,0 +1,81 @@
+-- What stands behind the note of an accepted record is the record of its state. Assumes nothing.
+use mathlib.Core.Path.{_≡_, refl, ap, ap₂, sym, _∙_}
+use mathlib.Core.Bool.{true}
+use mathlib.Core.List.{List, [], _∷_, _++_}
+use Prim.Native.Nat.{ℕ, zero, suc, _+_, _-_, _≤_, _<_}
+use native.Mathlib.Omega.{arith}
+use lib.IntN.{ℤ, pos}
+use lib.ListN.{length, take, drop, take-append-drop, drop-of-length-le}
+use lib.Seq.{drop-cons, drop-drop, getD-drop, length-take-le}
+use Rattle.lists.specs.Lists.{at}
+use Rattle.state.specs.Outcome.{isAccepted}
+use Rattle.state.specs.State.{numbersOf, stateOf}
+use Rattle.record.specs.Bytes.{words, bytesOf}
+use Rattle.record.specs.Record.{distanceOf, numbersIn, recordVerdict, readCall, encoded}
+use Rattle.record.specs.Handover.{Bytes}
+use Rattle.record.proofs.Bytes.{bytes-back}
+use Rattle.record.proofs.Writer.{bytes-length}
+use Rattle.record.proofs.Trailers.{trailer-is}
+use Rattle.record.proofs.Reader.{lentBody, body-at, trailer-accepted, distance-accepted, whole, body-length, note-accepted, state-accepted}
+
+-- ---- the numbers of the state of 197 numbers are those numbers
+module _ (xs : List ℤ) (l : length xs ≡ 197) where
+  next : (k n : ℕ) → take n (drop k xs) ++ drop (k + n) xs ≡ drop k xs
+  next k n = ap (λ (r : List ℤ). take n (drop k xs) ++ r) (sym (drop-drop n k xs)) ∙ take-append-drop n (drop k xs)
+
+  one : (k : ℕ) → k < 197 → at xs k ∷ drop (suc k) xs ≡ drop k xs
+  one k h = sym (drop-cons xs k (pos 0) (omega (arith, l)))
+
+  pub numbers-of-state : numbersOf (stateOf xs) ≡ xs
+  unfolding numbersOf stateOf
+  numbers-of-state =
+      let e₈ : drop 197 xs ≡ [] = drop-of-length-le xs {i = 197} (omega (arith, l)) in
+      let e₇ : at xs 195 ∷ at xs 196 ∷ [] ≡ drop 195 xs = ap (λ (r : List ℤ). at xs 195 ∷ at xs 196 ∷ r) (sym e₈) ∙ ap (λ (r : List ℤ). at xs 195 ∷ r) (one 196 (omega arith)) ∙ one 195 (omega arith) in
+      let e₆ = ap (λ (r : List ℤ). take 10 (drop 185 xs) ++ r) e₇ ∙ next 185 10 in
+      let e₅ = ap (λ (r : List ℤ). take 10 (drop 175 xs) ++ r) e₆ ∙ next 175 10 in
+      let e₄ = ap (λ (r : List ℤ). take 10 (drop 165 xs) ++ r) e₅ ∙ next 165 10 in
+      let e₃ = ap (λ (r : List ℤ). at xs 164 ∷ r) e₄ ∙ one 164 (omega arith) in
+      let e₂ = ap (λ (r : List ℤ). take 154 (drop 10 xs) ++ r) e₃ ∙ next 10 154 in
+      ap (λ (r : List ℤ). take 10 xs ++ r) e₂ ∙ next 0 10
+
+-- ---- bytes, and a part of them
+take-bytes : (n : ℕ) (b : List ℕ) → Bytes b → Bytes (take n b)
+take-bytes zero b f i = omega arith
+take-bytes (suc n) [] f i = f i
+take-bytes (suc n) (x ∷ b) f zero = f 0
+take-bytes (suc n) (x ∷ b) f (suc i) = take-bytes n b (λ j. f (suc j)) i
+
+drop-bytes : (n : ℕ) (b : List ℕ) → Bytes b → Bytes (drop n b)
+drop-bytes n b f i = rw (getD-drop n b i 0) (f (n + i))
+
+-- ---- an accepted record, behind its note
+module _ (b : List ℕ) (bytes : Bytes b) (y : isAccepted (recordVerdict b) ≡ true) where
+  note-length : length (readCall b .note) ≡ length b - 402
+  note-length = ap length (sym (note-accepted b (recordVerdict b) refl y)) ∙ length-take-le (length b - 402) b (omega arith)
+
+  body-bytes : bytesOf (numbersIn b) ≡ lentBody b
+  body-bytes =
+      ap (λ (l : List ℕ). bytesOf (words l)) (sym (body-at b (distanceOf b) (whole b y) (distance-accepted b y)))
+      ∙ bytes-back 197 (lentBody b) (body-length b y) (take-bytes (length b - 8 - (length b - 402)) (drop (length b - 402) b) (drop-bytes (length b - 402) b bytes))
+
+  numbers-here : numbersOf (readCall b .answer .state) ≡ numbersIn b
+  numbers-here =
+      let e = ap length body-bytes in
+      let k : length (numbersIn b) ≡ 197 = omega (arith, e, bytes-length (numbersIn b), body-length b y) in
+      ap numbersOf (sym (state-accepted b (recordVerdict b) refl y)) ∙ numbers-of-state (numbersIn b) k
+
+  rest-parts : drop (length b - 402) b ≡ lentBody b ++ drop (length b - 8) b
+  rest-parts =
+      let w = whole b y in
+      let k : length b - 8 - (length b - 402) ≡ 394 = omega (arith, w) in
+      let m : length b - 402 + 394 ≡ length b - 8 = omega (arith, w) in
+      sym (take-append-drop 394 (drop (length b - 402) b))
+      ∙ ap₂ (λ (n : ℕ) (r : List ℕ). take n (drop (length b - 402) b) ++ r) (sym k) (drop-drop 394 (length b - 402) b ∙ ap (λ (n : ℕ). drop n b) m)
+
+  pub rest-is : drop (length (readCall b .note)) b ≡ encoded (readCall b .answer .state)
+  unfolding encoded
+  rest-is =
+      let h : 8 ≤ length b = omega (arith, whole b y) in
+      ap (λ (n : ℕ). drop n b) note-length
+      ∙ rest-parts
+      ∙ ap₂ _++_ (sym body-bytes ∙ ap bytesOf (sym numbers-here)) (trailer-is b (trailer-accepted b y) h bytes)
