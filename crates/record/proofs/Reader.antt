@@ -15,7 +15,7 @@ use Rattle.state.specs.Outcome.{Row, row, firstMet, isAccepted}
 use Rattle.state.specs.State.{stateRows, stateOf}
 use Rattle.record.specs.Bytes.{words}
 use Rattle.record.specs.declared.Answer.{Answer}
-use Rattle.record.specs.Record.{distanceOf, noteLength, noteOf, numbersIn, trailerRows, recordVerdict, zeroState, told, readCall}
+use Rattle.record.specs.Record.{distanceOf, noteLength, noteOf, numbersIn, trailerRows, bodyRows, recordVerdict, zeroState, told, readCall}
 use Rattle.record.proofs.Rows.{stopped, passed, first-unmet, both-accept}
 use Rattle.record.proofs.Trailers.{tail, tail-rows, distance-is}
 
@@ -30,25 +30,22 @@ body-at b d h e =
     ap₂ (λ (i j : ℕ). take i (drop j b)) k m
 
 module _ (b : List ℕ) where
-  -- rows 16 and 17 of the body, rows 15 to 17, rows 12 to 17
+  -- rows 16 and 17
   abbrev numberRows : List Row
   numberRows = stateRows (at (numbersIn b) 164) (at (numbersIn b) 196)
-
-  abbrev bodyRows : List Row
-  bodyRows = row (ltb (length b - 8) (distanceOf b)) BodyShort ∷ numberRows
 
   pub record-short : length b < 8 → RecordShort ≡ recordVerdict b
   unfolding recordVerdict firstMet
   record-short h = rw (lt-ltb _ _ h)
 
   module _ (h : 8 ≤ length b) where
-    eight-bytes : firstMet (trailerRows b ++ bodyRows) ≡ recordVerdict b
+    eight-bytes : firstMet (trailerRows b ++ bodyRows b) ≡ recordVerdict b
     unfolding recordVerdict firstMet
     eight-bytes = rw (le-ltb _ _ h)
 
     module _ (y : isAccepted (firstMet (trailerRows b)) ≡ true) where
-      rest : firstMet bodyRows ≡ recordVerdict b
-      rest = passed (trailerRows b) bodyRows (refl, (refl, (refl, tt))) y ∙ eight-bytes
+      rest : firstMet (bodyRows b) ≡ recordVerdict b
+      rest = passed (trailerRows b) (bodyRows b) (refl, (refl, (refl, tt))) y ∙ eight-bytes
 
       too-short : length b < 402 → BodyShort ≡ recordVerdict b
       unfolding firstMet
@@ -68,7 +65,7 @@ module _ (b : List ℕ) where
       trailer-told = e ∙ ap (λ (t : List ℕ). firstMet (trailerRows t)) (tail b (length b - 8)) ∙ tail-rows b h
 
       pub trailer-refused : isAccepted o ≡ false → o ≡ recordVerdict b
-      trailer-refused n = trailer-told ∙ stopped (trailerRows b) bodyRows (rw trailer-told at n) ∙ eight-bytes
+      trailer-refused n = trailer-told ∙ stopped (trailerRows b) (bodyRows b) (rw trailer-told at n) ∙ eight-bytes
 
       pub body-short : isAccepted o ≡ true → length b < 402 → BodyShort ≡ recordVerdict b
       body-short y k = too-short (rw trailer-told at y) k
@@ -82,11 +79,11 @@ module _ (b : List ℕ) where
 
   -- ---- an accepted record
   module _ (y : isAccepted (recordVerdict b) ≡ true) where
-    parts : (isAccepted (firstMet (trailerRows b)) ≡ true) × (isAccepted (firstMet bodyRows) ≡ true)
+    parts : (isAccepted (firstMet (trailerRows b)) ≡ true) × (isAccepted (firstMet (bodyRows b)) ≡ true)
     unfolding recordVerdict
     parts =
-        both-accept (trailerRows b) bodyRows (refl, (refl, (refl, tt)))
-        (first-unmet (row (ltb (length b) 8) RecordShort) (trailerRows b ++ bodyRows) refl y .1)
+        both-accept (trailerRows b) (bodyRows b) (refl, (refl, (refl, tt)))
+        (first-unmet (row (ltb (length b) 8) RecordShort) (trailerRows b ++ bodyRows b) refl y .1)
 
     pub trailer-accepted : isAccepted (firstMet (trailerRows b)) ≡ true
     trailer-accepted = parts .0
@@ -97,7 +94,7 @@ module _ (b : List ℕ) where
     pub whole : 402 ≤ length b
     unfolding recordVerdict
     whole =
-        let s : 8 ≤ length b = ltb-false (length b) 8 (first-unmet (row (ltb (length b) 8) RecordShort) (trailerRows b ++ bodyRows) refl y .0) in
+        let s : 8 ≤ length b = ltb-false (length b) 8 (first-unmet (row (ltb (length b) 8) RecordShort) (trailerRows b ++ bodyRows b) refl y .0) in
         let k : distanceOf b ≤ length b - 8 = ltb-false (length b - 8) (distanceOf b) (first-unmet (row (ltb (length b - 8) (distanceOf b)) BodyShort) numberRows refl (parts .1) .0) in
         omega (arith, s, k, distance-accepted)
 

@@ -74,13 +74,15 @@ trailerRows b =
     row (not (eqb (fieldAt b 4) (t .distance) && eqb (fieldAt b 6) (t .count))) Layout ∷
     []
 
--- 11: under 8 bytes; 15: fewer bytes before the trailer than the version's distance
+-- 15: fewer bytes before the trailer than the version's distance; then those of the state, of two of the body's numbers
+abbrev pub bodyRows : List ℕ → List Row
+bodyRows b =
+    row (ltb (length b - 8) (distanceOf b)) BodyShort ∷
+    stateRows (at (numbersIn b) 164) (at (numbersIn b) 196)
+
+-- 11: under 8 bytes; then 12 to 17
 abbrev pub recordRows : List ℕ → List Row
-recordRows b =
-    row (ltb (length b) 8) RecordShort ∷
-    trailerRows b ++
-    (row (ltb (length b - 8) (distanceOf b)) BodyShort ∷
-    stateRows (at (numbersIn b) 164) (at (numbersIn b) 196))
+recordRows b = row (ltb (length b) 8) RecordShort ∷ trailerRows b ++ bodyRows b
 
 unfoldable pub recordVerdict : List ℕ → Outcome
 recordVerdict b = firstMet (recordRows b)
