@@ -221,7 +221,8 @@ fn zero_state() -> State
     }
 }
 
-fn answer_of(bytes: &[u8]) -> Answer
+// What a read answers beside the note.
+pub fn answer_of(bytes: &[u8]) -> Answer
     ensures { λ r. ⌜ r ≡ readCall (now (bytes .entry)) .answer ⌝ }
 {
     let outcome = verdict(bytes);
@@ -243,7 +244,7 @@ fn answer_of(bytes: &[u8]) -> Answer
 }
 
 // What stands before the body: part of the lent bytes, none of them where the read is refused.
-fn note(bytes: &[u8]) -> &[u8]
+pub fn note(bytes: &[u8]) -> &[u8]
     ensures { λ r. ⌜ (now r ≡ readCall (now (bytes .entry)) .note) × (ptr r ≡ ptr (bytes .entry)) ⌝ }
 {
     let outcome = verdict(bytes);

@@ -1,5 +1,6 @@
 // Runs the recorded answers of the reference, the files of data/, through the stages, and says for each file how many records there are
 // and how many differ. A record is a row of 16-bit words, low byte first: inputs, then answers.
+ghost use mathlib.Core.Path.{_≡_};
 ghost use Prim.Native.Nat.{_+_, _*_, _≤_, _<_};
 ghost use lib.ListN.{length};
 ghost use Rattle.decoder.specs.Core.{Lags};
@@ -14,6 +15,7 @@ use lpc::Rows;
 use pitch::Fraction;
 use pitch::PitchLag;
 use postfilter::Postfilter;
+use state::State;
 
 fn wide(x: u8) -> u32
     ensures { λ r. ⌜ r < 256 ⌝ }
@@ -485,6 +487,154 @@ fn core(b: &[u8]) -> bool {
     flags_same(b, 539, places) && rows_same(b, 543, rows) && core_same(b, 587, next)
 }
 
+fn state_of(b: &[u8], from: usize) -> State
+    requires { ⌜ (from < 500) × (2 * from + 394 ≤ length (now b)) ⌝ }
+{
+    let core = core_of(b, from);
+    let post = memory_of(b, from + 175);
+    State { core, post }
+}
+
+fn state_same(b: &[u8], from: usize, state: State) -> bool
+    requires { ⌜ (from < 500) × (2 * from + 394 ≤ length (now b)) ⌝ }
+{
+    let core = state.core;
+    let post = state.post;
+    core_same(b, from, core) && memory_same(b, from + 175, post)
+}
+
+// Refusal, note's length and state that the reader gives are those of the recorded answer.
+fn read_agrees(b: &[u8], bytes: &[u8]) -> bool
+    requires { ⌜ 820 ≤ length (now b) ⌝ }
+{
+    let answer = record::answer_of(bytes);
+    let note = record::note(bytes);
+    let outcome = answer.outcome;
+    let state = answer.state;
+    if outcome.number() != bits(b, 211) as u64 {
+        return false;
+    }
+    if note.len() != bits(b, 212) as usize {
+        return false;
+    }
+    state_same(b, 213, state)
+}
+
+fn record_read(b: &[u8]) -> bool {
+    if b.len() < 820 {
+        return false;
+    }
+    let n = bits(b, 0) as usize;
+    if 420 < n {
+        return false;
+    }
+    let end = 2 + n;
+    read_agrees(b, &b[2..end])
+}
+
+fn all_are(xs: &[u8], v: u8) -> bool {
+    let mut i = 0;
+    while i < xs.len() {
+        if xs[i] != v {
+            return false;
+        }
+        i += 1;
+    }
+    true
+}
+
+fn bytes_same(xs: &[u8], ys: &[u8]) -> bool
+    requires { ⌜ length (now xs) ≤ length (now ys) ⌝ }
+{
+    let mut i = 0;
+    while i < xs.len() {
+        if xs[i] != ys[i] {
+            return false;
+        }
+        i += 1;
+    }
+    true
+}
+
+// What was lent, 0x55 in each byte before the write, is the recorded record, or is as it was where the write was refused.
+fn written_agrees(b: &[u8], lent: &[u8], refusal: u64) -> bool
+    requires { ⌜ (800 ≤ length (now b)) × (length (now lent) ≡ 420) ⌝ }
+{
+    if refusal != bits(b, 198) as u64 {
+        return false;
+    }
+    if refusal != 0 {
+        return all_are(lent, 0x55);
+    }
+    bytes_same(&lent[0..402], &b[398..800]) && all_are(&lent[402..420], 0x55)
+}
+
+fn write_into(b: &[u8], lent: &mut [u8], n: usize) -> bool
+    requires { ⌜ (800 ≤ length (now b)) × ((length (now lent) ≡ 420) × (n ≤ 420)) ⌝ }
+{
+    let state = state_of(b, 1);
+    let outcome = record::write(state, &mut lent[0..n]);
+    written_agrees(b, lent, outcome.number())
+}
+
+fn record_write(b: &[u8]) -> bool {
+    if b.len() < 800 {
+        return false;
+    }
+    let n = bits(b, 0) as usize;
+    if 420 < n {
+        return false;
+    }
+    let mut lent = [0x55u8; 420];
+    write_into(b, &mut lent, n)
+}
+
+fn refusal_of(bytes: &[u8]) -> u64 {
+    let answer = record::answer_of(bytes);
+    let outcome = answer.outcome;
+    outcome.number()
+}
+
+// The first n and the last n bytes of a record of zeros: both are under 8 bytes, or the first lack the tag and the last the body.
+fn cut_refused(r: &[u8], n: usize) -> bool
+    requires { ⌜ (length (now r) ≡ 402) × (n < 402) ⌝ }
+{
+    let start = 402 - n;
+    let first = refusal_of(&r[0..n]);
+    let last = refusal_of(&r[start..402]);
+    if n < 8 {
+        return first == 11 && last == 11;
+    }
+    first == 12 && last == 15
+}
+
+// How many lengths below 402 give another refusal.
+fn cuts(r: &[u8]) -> u64
+    requires { ⌜ length (now r) ≡ 402 ⌝ }
+{
+    let mut different: u64 = 0;
+    for n in 0..402 {
+        if !cut_refused(r, n) {
+            different += 1;
+        }
+    }
+    different
+}
+
+fn cut_records() {
+    let zeros = [0u8; 394];
+    let state = state_of(&zeros, 0);
+    let mut r = [0u8; 402];
+    let outcome = record::write(state, &mut r);
+    io::write_all(STDOUT_FILENO, b"record of zeros: ");
+    io::print_decimal(STDOUT_FILENO, outcome.number());
+    io::write_all(STDOUT_FILENO, b" written, ");
+    io::print_decimal(STDOUT_FILENO, refusal_of(&r));
+    io::write_all(STDOUT_FILENO, b" read, 402 cuts, ");
+    io::print_decimal(STDOUT_FILENO, cuts(&r));
+    io::write_all(STDOUT_FILENO, b" different\n");
+}
+
 // The stage of a file, by its number, on a record.
 fn agrees(stage: u32, b: &[u8]) -> bool {
     match stage {
@@ -501,6 +651,8 @@ fn agrees(stage: u32, b: &[u8]) -> bool {
         10 => both_passes(b),
         11 => postfiltered(b),
         12 => core(b),
+        13 => record_read(b),
+        14 => record_write(b),
         _ => false,
     }
 }
@@ -581,4 +733,7 @@ fn main() {
     file(b"postfilter.bin", 11, 408);
     file(b"frame_kept.bin", 12, 784);
     file(b"frame_broken.bin", 12, 784);
+    file(b"record_read.bin", 13, 410);
+    file(b"record_write.bin", 14, 400);
+    cut_records();
 }
