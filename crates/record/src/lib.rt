@@ -162,10 +162,10 @@ fn core_in(body: &[u8]) -> Core
     let mut history = [0i16; 10];
     fill(&mut history, &body[330..350]);
     Core {
-        lsp: lsp,
-        past: past,
+        lsp,
+        past,
         sharpening: Q14(sharpening),
-        history: history,
+        history,
     }
 }
 
@@ -181,12 +181,10 @@ fn post_in(body: &[u8]) -> Postfilter
     let previous_residual = word(body[390], body[391]);
     let previous_gain = word(body[392], body[393]);
     Postfilter {
-        input_history: input_history,
-        synthesis_history: synthesis_history,
-        previous_residual: previous_residual,
-        gain: GainControl {
-            previous_gain: previous_gain,
-        },
+        input_history,
+        synthesis_history,
+        previous_residual,
+        gain: GainControl { previous_gain },
     }
 }
 
@@ -196,10 +194,7 @@ fn state_in(body: &[u8]) -> State
 {
     let core = core_in(body);
     let post = post_in(body);
-    State {
-        core: core,
-        post: post,
-    }
+    State { core, post }
 }
 
 fn zero_state() -> State
@@ -231,16 +226,10 @@ pub fn answer_of(bytes: &[u8]) -> Answer
         let start = n - RECORD_BYTES;
         let end = n - 8;
         let state = state_in(&bytes[start..end]);
-        return Answer {
-            outcome: outcome,
-            state: state,
-        };
+        return Answer { outcome, state };
     }
     let state = zero_state();
-    Answer {
-        outcome: outcome,
-        state: state,
-    }
+    Answer { outcome, state }
 }
 
 // What stands before the body: part of the lent bytes, none of them where the read is refused.
@@ -261,10 +250,7 @@ pub fn read<'a>(bytes: &'a [u8]) -> Reading<'a>
 {
     let answer = answer_of(bytes);
     let note = note(bytes);
-    Reading {
-        answer: answer,
-        note: note,
-    }
+    Reading { answer, note }
 }
 
 // ---- the writer

@@ -1,17 +1,14 @@
-// Runs the recorded answers of the reference, the files of data/, through the stages, and says for each file how many records there are
+// Runs the recorded answers of the reference, the files of data/, through the stages and the three calls, and says for each file how many records there are
 // and how many differ. A record is a row of 16-bit words, low byte first: inputs, then answers.
 ghost use mathlib.Core.Path.{_≡_};
 ghost use Prim.Native.Nat.{_+_, _*_, _≤_, _<_};
 ghost use lib.ListN.{length};
-ghost use Rattle.decoder.specs.Core.{Lags};
-use basicop::Q1;
 use basicop::Q14;
 use decoder::Core;
-use decoder::Parameters;
-use decoder::Subframes;
 use energy::GainControl;
 use libc::STDOUT_FILENO;
 use lpc::Rows;
+use mr74::FrameAnswer;
 use pitch::Fraction;
 use pitch::PitchLag;
 use postfilter::Postfilter;
@@ -323,7 +320,7 @@ fn memory_of(b: &[u8], from: usize) -> Postfilter
 }
 
 fn memory_same(b: &[u8], from: usize, memory: Postfilter) -> bool
-    requires { ⌜ (from < 700) × (2 * from + 44 ≤ length (now b)) ⌝ }
+    requires { ⌜ (from < 780) × (2 * from + 44 ≤ length (now b)) ⌝ }
 {
     let input = memory.input_history;
     let output = memory.synthesis_history;
@@ -345,59 +342,6 @@ fn postfiltered(b: &[u8]) -> bool {
     let samples = r.samples;
     let memory = r.memory;
     frame_same(b, 226, samples) && memory_same(b, 386, memory)
-}
-
-// The lag of a sheet's subframe. A recorded sheet gives none outside 19 to 144.
-fn lag_at(b: &[u8], k: usize, relative: bool, previous: u16) -> PitchLag
-    requires { ⌜ (k < 800) × (2 * k + 2 ≤ length (now b)) ⌝ }
-    ensures { λ r. ⌜ (19 ≤ r .samples) × (r .samples ≤ 144) ⌝ }
-{
-    let index = bits(b, k);
-    let l = lag_of(relative, (index % 256) as u8, previous);
-    let samples = l.samples;
-    let fraction = l.fraction;
-    if samples < 19 || 144 < samples {
-        return PitchLag {
-            samples: 19,
-            fraction: Fraction::Zero,
-        };
-    }
-    PitchLag { samples, fraction }
-}
-
-fn parameters(b: &[u8], k: usize, lag: PitchLag) -> Parameters
-    requires { ⌜ (k < 4) × ((364 ≤ length (now b)) × ((19 ≤ lag .samples) × (lag .samples ≤ 144))) ⌝ }
-    ensures { λ r. ⌜ (19 ≤ r .lag .samples) × (r .lag .samples ≤ 144) ⌝ }
-{
-    let pitch = Q14(word(b, 14 + 2 * k));
-    let code = Q1(word(b, 15 + 2 * k));
-    let innovation = forty(b, 22 + 40 * k);
-    Parameters {
-        lag,
-        pitch,
-        code,
-        innovation,
-    }
-}
-
-fn subframes(b: &[u8]) -> Subframes
-    requires { ⌜ 364 ≤ length (now b) ⌝ }
-    ensures { λ r. ⌜ Lags r ⌝ }
-{
-    let la = lag_at(b, 10, false, 0);
-    let lb = lag_at(b, 11, true, la.samples);
-    let lc = lag_at(b, 12, false, 0);
-    let ld = lag_at(b, 13, true, lc.samples);
-    let pa = parameters(b, 0, la);
-    let pb = parameters(b, 1, lb);
-    let pc = parameters(b, 2, lc);
-    let pd = parameters(b, 3, ld);
-    Subframes {
-        a: pa,
-        b: pb,
-        c: pc,
-        d: pd,
-    }
 }
 
 fn core_of(b: &[u8], from: usize) -> Core
@@ -436,13 +380,11 @@ fn core_same(b: &[u8], from: usize, core: Core) -> bool
     word(b, from + 164) == core.sharpening.0 && ten_same(b, from + 165, history)
 }
 
-// a flag is 1 where a step of the first pass clamped
-fn flags_same(b: &[u8], from: usize, places: [usize; 4]) -> bool
+fn flags_same(b: &[u8], from: usize, flags: [bool; 4]) -> bool
     requires { ⌜ (from < 800) × (2 * from + 8 ≤ length (now b)) ⌝ }
 {
     for i in 0..4 {
-        let flag = bits(b, from + i);
-        if (flag == 1) != (places[i] < 40) {
+        if (bits(b, from + i) == 1) != flags[i] {
             return false;
         }
     }
@@ -471,22 +413,6 @@ fn rows_same(b: &[u8], from: usize, rows: Rows) -> bool
     row_same(b, from + 22, third) && row_same(b, from + 33, fourth)
 }
 
-// The core of a frame: rows, flags and the core's part of the next state.
-fn core(b: &[u8]) -> bool {
-    if b.len() < 1568 {
-        return false;
-    }
-    let lsf = ten(b, 0);
-    if spectral::first_outside(lsf) != 10 {
-        return false;
-    }
-    let r = decoder::decode(core_of(b, 182), lsf, subframes(b));
-    let rows = r.rows;
-    let places = r.run.places;
-    let next = r.run.next;
-    flags_same(b, 539, places) && rows_same(b, 543, rows) && core_same(b, 587, next)
-}
-
 fn state_of(b: &[u8], from: usize) -> State
     requires { ⌜ (from < 500) × (2 * from + 394 ≤ length (now b)) ⌝ }
 {
@@ -496,11 +422,89 @@ fn state_of(b: &[u8], from: usize) -> State
 }
 
 fn state_same(b: &[u8], from: usize, state: State) -> bool
-    requires { ⌜ (from < 500) × (2 * from + 394 ≤ length (now b)) ⌝ }
+    requires { ⌜ (from < 600) × (2 * from + 394 ≤ length (now b)) ⌝ }
 {
     let core = state.core;
     let post = state.post;
     core_same(b, from, core) && memory_same(b, from + 175, post)
+}
+
+// Samples, flags, rows and next state of an accepted call are those of the recorded answer.
+fn frame_agrees(b: &[u8], answer: FrameAnswer, samples: [i16; 160]) -> bool
+    requires { ⌜ 1568 ≤ length (now b) ⌝ }
+{
+    let outcome = answer.outcome;
+    let flags = answer.flags;
+    let rows = answer.rows;
+    let next = answer.next;
+    if !outcome.accepted() {
+        return false;
+    }
+    if !frame_same(b, 379, samples) {
+        return false;
+    }
+    flags_same(b, 539, flags) && rows_same(b, 543, rows) && state_same(b, 587, next)
+}
+
+// A whole frame.
+fn frame(b: &[u8]) -> bool {
+    if b.len() < 1568 {
+        return false;
+    }
+    let mut sheet = [0i16; 182];
+    record::fill(&mut sheet, &b[0..364]);
+    let mut samples = [0i16; 160];
+    let answer = mr74::frame(&sheet, state_of(b, 182), &mut samples);
+    frame_agrees(b, answer, samples)
+}
+
+fn all_sevens(xs: &[i16]) -> bool {
+    let mut i = 0;
+    while i < xs.len() {
+        if xs[i] != 7 {
+            return false;
+        }
+        i += 1;
+    }
+    true
+}
+
+// A refused call names the recorded number and place, and gives rows of zeros, flags 0 and the state as it came.
+fn refusal_agrees(b: &[u8], answer: FrameAnswer) -> bool
+    requires { ⌜ 770 ≤ length (now b) ⌝ }
+{
+    let outcome = answer.outcome;
+    let flags = answer.flags;
+    let rows = answer.rows;
+    let next = answer.next;
+    if outcome.number() != bits(b, 383) as u64 || outcome.place() != bits(b, 384) as usize {
+        return false;
+    }
+    let zeros = [0u8; 96];
+    flags_same(&zeros, 0, flags) && rows_same(&zeros, 0, rows) && state_same(b, 186, next)
+}
+
+// The lent output has sevens, and has them still after the call.
+fn refused_into(b: &[u8], sheet: &[i16], lent: &mut [i16], room: usize) -> bool
+    requires { ⌜ (770 ≤ length (now b)) × (room ≤ length (now lent)) ⌝ }
+{
+    let answer = mr74::frame(sheet, state_of(b, 186), &mut lent[0..room]);
+    refusal_agrees(b, answer) && all_sevens(lent)
+}
+
+fn refused(b: &[u8]) -> bool {
+    if b.len() < 770 {
+        return false;
+    }
+    let n = bits(b, 0) as usize;
+    let room = bits(b, 1) as usize;
+    if 184 < n || 200 < room {
+        return false;
+    }
+    let mut sheet = [0i16; 184];
+    record::fill(&mut sheet, &b[4..372]);
+    let mut lent = [7i16; 200];
+    refused_into(b, &sheet[0..n], &mut lent, room)
 }
 
 // Refusal, note's length and state that the reader gives are those of the recorded answer.
@@ -650,9 +654,10 @@ fn agrees(stage: u32, b: &[u8]) -> bool {
         9 => gain_control(b),
         10 => both_passes(b),
         11 => postfiltered(b),
-        12 => core(b),
+        12 => frame(b),
         13 => record_read(b),
         14 => record_write(b),
+        15 => refused(b),
         _ => false,
     }
 }
@@ -733,6 +738,7 @@ fn main() {
     file(b"postfilter.bin", 11, 408);
     file(b"frame_kept.bin", 12, 784);
     file(b"frame_broken.bin", 12, 784);
+    file(b"refused.bin", 15, 385);
     file(b"record_read.bin", 13, 410);
     file(b"record_write.bin", 14, 400);
     cut_records();
