@@ -5,3 +5,4 @@ pub mod Inner
 pub mod Calls
 pub mod Measure
 pub mod Demand3
+pub mod Examples

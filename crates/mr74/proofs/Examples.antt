@@ -1,0 +1,76 @@
+-- The call of specs/Examples.antt, computed from the definition. Assumes nothing.
+use mathlib.Core.Path.{_≡_, refl, ap}
+use mathlib.Core.Bool.{false, cond, _||_}
+use mathlib.Core.List.{[], _∷_}
+use Prim.Native.Nat.{ℕ, zero, suc}
+use lib.IntN.{ℤ, pos}
+use lib.ListN.{replicate, getD, length-replicate}
+use mir.Syntax.{w16}
+use mir.Val.{SFits}
+use Rattle.lists.specs.Lists.{at, iter, tab, firstNot}
+use Rattle.basicop.specs.Ops.{clamp, asr, wrap, add, sub, mult, shl, L-add, L-sub, L-mult, L-shl, L-shr-r, L-deposit-h, doublings, norm-l, div-s, L-Extract, Mpy-32-16}
+use Rattle.basicop.specs.Words.{Words}
+use Rattle.basicop.proofs.Words.{zero-fits}
+use Rattle.pitch.specs.Lag.{absolute, lag-min, relative}
+use Rattle.spectral.specs.Lsp.{cosine, between, lspOf}
+use Rattle.lpc.specs.Rows.{raisedAt, polynomial, rowOf, rowsOf}
+use Rattle.adaptive.specs.Predict.{inter6, phase, start, interpolated, extended, predicted}
+use Rattle.excitation.specs.Excitation.{sharpened, sharpening, feedback}
+use Rattle.energy.specs.Energy.{squares, energy}
+use Rattle.energy.specs.Gain.{energyGain, agc2, controlled, agc}
+use Rattle.energy.specs.Root.{inverseTable, rootScaled, rootIndex, rootFraction, rootBetween, inverseRoot}
+use Rattle.synthesis.specs.Fed.{outside, fed, numbersOf, leaves, leavesAny}
+use Rattle.synthesis.specs.Synthesis.{acc, accs}
+use Rattle.decoder.specs.Enhance.{enhanced, firstExcitation}
+use Rattle.decoder.specs.Subframe.{synthesised}
+use Rattle.decoder.specs.Core.{excited, turn, ran, decoded}
+use Rattle.postfilter.specs.Weight.{numerator, denominator, weighted}
+use Rattle.postfilter.specs.Residual.{residualSum, residual}
+use Rattle.postfilter.specs.Tilt as tilts
+use Rattle.postfilter.specs.Preemphasis.{preemphasised}
+use Rattle.postfilter.specs.Postfilter.{filtered, processed}
+use Rattle.state.specs.Outcome.{firstMet}
+use Rattle.state.specs.State.{WellFormed, stateVerdict, stateOf}
+use Rattle.mr74.specs.Sheet.{lagsOf}
+use Rattle.mr74.specs.Verdict.{firstIndexOutside, verdict}
+use Rattle.mr74.specs.Frame.{frameTrace}
+use Rattle.mr74.specs.Calls.{traceOf, runCalls, anyAccepted, latestFlag}
+use Rattle.mr74.specs.Examples.{silent, loud, call, Seen, seen, expected, Example}
+
+-- n zeros
+zeros : (n : ℕ) → Words n (replicate n (pos 0))
+zeros n = record { count = length-replicate n (pos 0); fit = fit n }
+  where
+    fit : (n i : ℕ) → SFits w16 (at (replicate n (pos 0)) i)
+    fit zero i = zero-fits
+    fit (suc n) zero = zero-fits
+    fit (suc n) (suc i) = fit n i
+
+silent-well-formed : WellFormed silent
+unfolding silent stateOf
+silent-well-formed =
+    record {
+      lsp = zeros 10;
+      past = zeros 154;
+      sharpening = zero-fits;
+      history = zeros 10;
+      input-history = zeros 10;
+      synthesis-history = zeros 10;
+      previous-residual = zero-fits;
+      previous-gain = zero-fits;
+    }
+
+seen-is : seen (traceOf silent call) ≡ expected
+unfolding iter tab firstNot clamp asr wrap add sub mult shl L-add L-sub L-mult L-shl L-shr-r L-deposit-h doublings norm-l div-s L-Extract Mpy-32-16 absolute lag-min relative cosine between lspOf raisedAt polynomial rowOf rowsOf inter6 phase start interpolated extended predicted sharpened sharpening feedback squares energy energyGain agc2 inverseTable rootScaled rootIndex rootFraction rootBetween inverseRoot outside fed numbersOf leaves leavesAny acc accs enhanced firstExcitation synthesised excited turn ran decoded firstMet stateOf lagsOf firstIndexOutside verdict frameTrace loud silent numerator denominator weighted residualSum residual tilts.impulse tilts.energy tilts.correlation tilts.tiltOf tilts.tilt preemphasised filtered processed agc controlled
+seen-is = refl
+
+pub example : Example
+unfolding silent stateOf stateVerdict firstMet frameTrace verdict runCalls anyAccepted latestFlag
+example =
+    record {
+      well-formed = silent-well-formed;
+      state = refl;
+      call = seen-is;
+      any = ap (λ (e : Seen). e .accepted || false) seen-is;
+      latest = ap (λ (e : Seen). cond (e .accepted) (getD (e .flags) 3 false) false) seen-is;
+    }

@@ -1,0 +1,77 @@
+-- Demand 3 speaks of something: from an accepted state a call that is accepted, with subframes that are retried and subframes that are not, and that
+-- divides at every place where the definition can. The theorem is `example` in proofs/Examples.antt: each value is computed from the definition.
+use mathlib.Core.Path.{_≡_}
+use mathlib.Core.Bool.{Bool, true, false}
+use mathlib.Core.List.{List, [], _∷_, _++_, map}
+use lib.IntN.{ℤ, pos}
+use lib.ListN.{replicate}
+use Rattle.lists.specs.Lists.{at}
+use Rattle.basicop.specs.Ops.{Quotient}
+use Rattle.state.specs.declared.State.{State}
+use Rattle.state.specs.declared.Outcome.the-variants.{Accepted}
+use Rattle.state.specs.State.{WellFormed, stateVerdict, stateOf}
+use Rattle.mr74.specs.Frame.{Trace}
+use Rattle.mr74.specs.Calls.{Call, Frame, traceOf, runCalls, accepted, anyAccepted, latestFlag}
+
+-- 197 zeros
+unfoldable pub silent : State
+silent = stateOf (replicate 197 (pos 0))
+
+-- LSFs at even distances; pitch indices 0; pitch gains 1 (Q14), and the greatest code gain in the last subframe; the same innovation throughout
+unfoldable pub loud : List ℤ
+loud =
+    (pos 1400 ∷ pos 2800 ∷ pos 4200 ∷ pos 5600 ∷ pos 7000 ∷ pos 8400 ∷ pos 9800 ∷ pos 11200 ∷ pos 12600 ∷ pos 14000 ∷ [])
+    ++ (replicate 4 (pos 0)
+    ++ ((pos 16384 ∷ pos 100 ∷ pos 16384 ∷ pos 100 ∷ pos 16384 ∷ pos 100 ∷ pos 16384 ∷ pos 32767 ∷ [])
+    ++ replicate 160 (pos 8192)))
+
+abbrev pub call : Call
+call = Frame loud (replicate 160 (pos 0))
+
+-- the call, and after it one with no sheet and no output, which is refused
+abbrev pub calls : List Call
+calls = call ∷ Frame [] [] ∷ []
+
+-- of a call: whether it was accepted, flags, tilts, divisors, and of the state given back sharpening and the newest excitation
+pub record Seen : Type 0 where
+  pub accepted : Bool
+  pub flags : List Bool
+  pub tilts : List ℤ
+  pub divisors : List ℤ
+  pub sharpening : ℤ
+  pub newest : ℤ
+
+abbrev pub seen : Trace → Seen
+seen t =
+    record {
+      accepted = accepted t;
+      flags = t .flags;
+      tilts = t .tilts;
+      divisors = map (λ (q : Quotient). q .divisor) (t .quotients);
+      sharpening = t .next .core .sharpening .0;
+      newest = at (t .next .core .past) 153;
+    }
+
+-- The first and the last subframe were retried. Each subframe has a tilt above 0. Twelve divisions: enhancement in each subframe; then in each the
+-- tilt and the gain control. Sharpening, and the past after a retry, reach the upper ends of their ranges
+abbrev pub expected : Seen
+expected =
+    record {
+      accepted = true;
+      flags = true ∷ false ∷ false ∷ true ∷ [];
+      tilts = pos 25275 ∷ pos 935 ∷ pos 1469 ∷ pos 2399 ∷ [];
+      divisors =
+          pos 25000 ∷ pos 19131 ∷ pos 20072 ∷ pos 32767
+          ∷ pos 32767 ∷ pos 32767 ∷ pos 806 ∷ pos 20414 ∷ pos 602 ∷ pos 22421 ∷ pos 519 ∷ pos 28803 ∷ [];
+      sharpening = pos 13017;
+      newest = pos 8191;
+    }
+
+pub record Example : Type 0 where
+  -- what demand 3 asks of the opening state
+  pub well-formed : WellFormed silent
+  pub state : stateVerdict silent ≡ Accepted
+  pub call : seen (traceOf silent call) ≡ expected
+  -- the list meets both conditions: a call was accepted, and the last subframe of the latest accepted one was retried
+  pub any : anyAccepted (runCalls silent calls) ≡ true
+  pub latest : latestFlag false (runCalls silent calls) ≡ true
