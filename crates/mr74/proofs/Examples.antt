@@ -1,4 +1,4 @@
--- The call of specs/Examples.antt, computed from the definition. Assumes nothing.
+-- The calls of specs/Examples.antt, computed from the definition. Assumes nothing.
 use mathlib.Core.Path.{_≡_, refl, ap}
 use mathlib.Core.Bool.{false, cond, _||_}
 use mathlib.Core.List.{[], _∷_}
@@ -35,7 +35,7 @@ use Rattle.mr74.specs.Sheet.{lagsOf}
 use Rattle.mr74.specs.Verdict.{firstIndexOutside, verdict}
 use Rattle.mr74.specs.Frame.{frameTrace}
 use Rattle.mr74.specs.Calls.{traceOf, runCalls, anyAccepted, latestFlag}
-use Rattle.mr74.specs.Examples.{silent, loud, call, Seen, seen, expected, Example}
+use Rattle.mr74.specs.Examples.{silent, loud, call, Seen, seen, expected, Example, ordered, FrameOrder, placed, Places}
 
 -- n zeros
 zeros : (n : ℕ) → Words n (replicate n (pos 0))
@@ -74,3 +74,11 @@ example =
       any = ap (λ (e : Seen). e .accepted || false) seen-is;
       latest = ap (λ (e : Seen). cond (e .accepted) (getD (e .flags) 3 false) false) seen-is;
     }
+
+pub frame-order : FrameOrder
+unfolding ordered stateOf firstMet firstNot firstIndexOutside verdict
+frame-order = refl
+
+pub places : Places
+unfolding placed stateOf firstMet firstNot firstIndexOutside verdict
+places = refl

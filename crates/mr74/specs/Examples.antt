@@ -1,15 +1,19 @@
 -- Demand 3 speaks of something: from an accepted state a call that is accepted, with subframes that are retried and subframes that are not, and that
--- divides at every place where the definition can. The theorem is `example` in proofs/Examples.antt: each value is computed from the definition.
+-- divides at every place where the definition can. And calls that each row of the frame order turns back.
+-- The theorems are `example`, `frame-order` and `places` in proofs/Examples.antt: each value is computed from the definition.
 use mathlib.Core.Path.{_≡_}
 use mathlib.Core.Bool.{Bool, true, false}
+use Prim.Native.Nat.{ℕ, _-_}
 use mathlib.Core.List.{List, [], _∷_, _++_, map}
 use lib.IntN.{ℤ, pos}
 use lib.ListN.{replicate}
-use Rattle.lists.specs.Lists.{at}
+use Rattle.lists.specs.Lists.{minus, at}
 use Rattle.basicop.specs.Ops.{Quotient}
 use Rattle.state.specs.declared.State.{State}
 use Rattle.state.specs.declared.Outcome.the-variants.{Accepted}
+use Rattle.state.specs.Outcome.{numberOf, placeOf}
 use Rattle.state.specs.State.{WellFormed, stateVerdict, stateOf}
+use Rattle.mr74.specs.Verdict.{verdict}
 use Rattle.mr74.specs.Frame.{Trace}
 use Rattle.mr74.specs.Calls.{Call, Frame, traceOf, runCalls, accepted, anyAccepted, latestFlag}
 
@@ -75,3 +79,48 @@ pub record Example : Type 0 where
   -- the list meets both conditions: a call was accepted, and the last subframe of the latest accepted one was retried
   pub any : anyAccepted (runCalls silent calls) ≡ true
   pub latest : latestFlag false (runCalls silent calls) ≡ true
+
+-- ---- refusals: number and place
+pub record Refusal : Type 0 where
+  pub number : ℕ
+  pub place : ℕ
+
+abbrev pub refused : ℕ → ℕ → Refusal
+refused number place = record { number = number; place = place }
+
+-- of a sheet, a state as 197 numbers, and an output of `room` samples
+abbrev pub refusal : List ℤ → List ℤ → ℕ → Refusal
+refusal sheet numbers room =
+    let o = verdict sheet (stateOf numbers) room in
+    refused (numberOf o) (placeOf o)
+
+-- n zeros, and then -1 up to m numbers
+abbrev pub zerosThen : ℕ → ℕ → List ℤ
+zerosThen n m = replicate n (pos 0) ++ replicate (m - n) (minus 1)
+
+-- each call meets its row and all those after it in the frame order 1, 5, 2, 3, 4, 16, 17; the last meets none
+unfoldable pub ordered : List Refusal
+ordered =
+    refusal (zerosThen 0 181) (zerosThen 0 197) 159
+    ∷ refusal (zerosThen 0 182) (zerosThen 0 197) 159
+    ∷ refusal (zerosThen 0 182) (zerosThen 0 197) 160
+    ∷ refusal (zerosThen 10 182) (zerosThen 0 197) 160
+    ∷ refusal (zerosThen 14 182) (zerosThen 0 197) 160
+    ∷ refusal (zerosThen 22 182) (zerosThen 0 197) 160
+    ∷ refusal (zerosThen 22 182) (zerosThen 165 197) 160
+    ∷ refusal (zerosThen 22 182) (zerosThen 197 197) 160
+    ∷ []
+
+abbrev pub FrameOrder : Type 0
+FrameOrder = ordered ≡ refused 1 0 ∷ refused 5 0 ∷ refused 2 0 ∷ refused 3 0 ∷ refused 4 0 ∷ refused 16 0 ∷ refused 17 0 ∷ refused 0 0 ∷ []
+
+-- the first number past its range: LSF 9; the indices 255, 31, 255, 32; gain 7
+unfoldable pub placed : List Refusal
+placed =
+    refusal (replicate 9 (pos 16384) ++ (pos 16385 ∷ replicate 172 (pos 0))) (zerosThen 197 197) 160
+    ∷ refusal (replicate 10 (pos 0) ++ (pos 255 ∷ pos 31 ∷ pos 255 ∷ pos 32 ∷ replicate 168 (pos 0))) (zerosThen 197 197) 160
+    ∷ refusal (zerosThen 21 182) (zerosThen 197 197) 160
+    ∷ []
+
+abbrev pub Places : Type 0
+Places = placed ≡ refused 2 9 ∷ refused 3 3 ∷ refused 4 7 ∷ []
