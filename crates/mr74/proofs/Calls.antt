@@ -11,8 +11,8 @@ use Rattle.state.specs.State.{WellFormed}
 use Rattle.mr74.specs.Verdict.{verdict}
 use Rattle.mr74.specs.Frame.{Trace, acceptedTrace, refusedTrace, frameTrace}
 use Rattle.mr74.specs.Calls.{Call, Frame, traceOf, nextState, accepted}
-use Rattle.mr74.specs.Measure.{leavesAll}
-use Rattle.mr74.specs.Demand3.{opening, machineAfter, InCall}
+use Rattle.mr74.specs.Measure.{Machine, leavesAll}
+use Rattle.mr74.specs.Demand3.{opening, machineAfter, InCall, Refused}
 use Rattle.mr74.proofs.Passed.{Passed, passed}
 use Rattle.mr74.proofs.Frames.{frame-well-formed, frame-in}
 
@@ -57,6 +57,10 @@ accepts s (Frame sheet out) e =
 -- a refused one gives the state back, and has no subframe
 pub refuses : (s : State) (c : Call) → accepted (traceOf s c) ≡ false → (o : Outcome) × ((out : List ℤ) × (traceOf s c ≡ refusedTrace o s out))
 refuses s (Frame sheet out) e = (verdict sheet s (length out), (out, trace-refused sheet s out (sym (told sheet s out) ∙ e)))
+
+pub call-refused : (s : State) (c : Call) (m : Machine) → accepted (traceOf s c) ≡ false → Refused s (traceOf s c) m
+unfolding leavesAll
+call-refused s c m e = subst (λ (t : Trace). Refused s t m) (sym (refuses s c e .1 .1)) (record { none = refl; machine = refl; state = refl })
 
 module _ (s : State) (c : Call) (w : WellFormed s) where
   pub next-well-formed : WellFormed (nextState s c)

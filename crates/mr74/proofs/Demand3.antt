@@ -12,15 +12,15 @@ use Rattle.state.specs.State.{WellFormed}
 use Rattle.mr74.specs.Frame.{Trace}
 use Rattle.mr74.specs.Calls.{Call, traceOf, nextState, runCalls, stateAfter, accepted, anyAccepted, latestFlag}
 use Rattle.mr74.specs.Measure.{Machine}
-use Rattle.mr74.specs.Demand3.{In, opening, EachAccepted, Demand3, Demand3-holds}
+use Rattle.mr74.specs.Demand3.{In, opening, EachCall, Demand3, Demand3-holds}
 use Rattle.mr74.proofs.Frames.{frame-sharpening, frame-gain, frame-small, frame-well-formed}
-use Rattle.mr74.proofs.Calls.{decided, accepts, refuses, next-well-formed, call-in, next-machine}
+use Rattle.mr74.proofs.Calls.{decided, accepts, refuses, next-well-formed, call-in, call-refused, next-machine}
 
--- ---- in each accepted call
-each : (cs : List Call) (s : State) → WellFormed s → EachAccepted s (opening s) cs
+-- ---- in each call
+each : (cs : List Call) (s : State) → WellFormed s → EachCall s (opening s) cs
 each [] s w = tt
 each (c ∷ cs) s w =
-    (call-in s c w, subst (λ (m : Machine). EachAccepted (nextState s c) m cs) (sym (next-machine s c w)) (each cs (nextState s c) (next-well-formed s c w)))
+    (call-in s c w, (call-refused s c (opening s), subst (λ (m : Machine). EachCall (nextState s c) m cs) (sym (next-machine s c w)) (each cs (nextState s c) (next-well-formed s c w))))
 
 next-refused : (s : State) (c : Call) → accepted (traceOf s c) ≡ false → nextState s c ≡ s
 next-refused s c e = ap (λ (t : Trace). t .next) (refuses s c e .1 .1)

@@ -67,10 +67,18 @@ pub record InCall (t : Trace) (m : Machine) : Type 0 where
   -- and the state given back has the history and the past that the machine is left with
   pub left : opening (t .next) ≡ machineAfter m t
 
--- in each accepted call of the list, with the machine as it stood before the call
-abbrev pub EachAccepted : State → Machine → List Call → Type 0
-EachAccepted s m [] = Unit {0}
-EachAccepted s m (c ∷ cs) = (accepted (traceOf s c) ≡ true → InCall (traceOf s c) m) × EachAccepted (nextState s c) (machineAfter m (traceOf s c)) cs
+-- ---- a refused call, on the state s: "A refused call has no subframe and leaves both."
+pub record Refused (s : State) (t : Trace) (m : Machine) : Type 0 where
+  pub none : t .turns ≡ []
+  pub machine : machineAfter m t ≡ m
+  pub state : t .next ≡ s
+
+-- ---- in each call of the list, with the machine as it stood before the call
+abbrev pub EachCall : State → Machine → List Call → Type 0
+EachCall s m [] = Unit {0}
+EachCall s m (c ∷ cs) =
+    let t = traceOf s c in
+    (accepted t ≡ true → InCall t m) × ((accepted t ≡ false → Refused s t m) × EachCall (nextState s c) (machineAfter m t) cs)
 
 -- ---- the claim
 pub record Demand3 (s : State) (cs : List Call) : Type 0 where
@@ -80,7 +88,7 @@ pub record Demand3 (s : State) (cs : List Call) : Type 0 where
   -- "and, if the latest accepted call's last subframe was retried, all 154 past excitations in -8192..=8191."
   pub past : latestFlag false (runCalls s cs) ≡ true → (length (stateAfter s cs .core .past) ≡ 154) × Every (In (negsuc 8191) (pos 8191)) (stateAfter s cs .core .past)
   -- tilts, divisors, flags, samples, feedback and past
-  pub calls : EachAccepted s (opening s) cs
+  pub calls : EachCall s (opening s) cs
 
 -- from any accepted state, for every list of calls, refused ones included, of any sheets and outputs, the empty list too
 abbrev pub Demand3-holds : Type 0
