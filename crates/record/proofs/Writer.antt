@@ -109,7 +109,7 @@ trailer-written out y h e =
 pub trailer-length : length trailerBytes ≡ 8
 trailer-length = omega (arith, bytes-length (pos 1 ∷ pos 394 ∷ pos 197 ∷ []))
 
-module _ (s : State) (out y₁ y₂ y₃ : List ℕ) where
+module _ (s : State) (out y₁ y₂ : List ℕ) where
   abbrev c : List ℤ
   c = s .core .lsp ++ (s .core .past ++ (s .core .sharpening .0 ∷ s .core .history))
 
@@ -122,17 +122,19 @@ module _ (s : State) (out y₁ y₂ y₃ : List ℕ) where
       append-assoc (s .core .lsp) (s .core .past ++ (s .core .sharpening .0 ∷ s .core .history)) p
       ∙ ap (λ (l : List ℤ). s .core .lsp ++ l) (append-assoc (s .core .past) (s .core .sharpening .0 ∷ s .core .history) p)
 
-  pub record-written : length out ≡ 402 → length y₁ ≡ 350 → length y₂ ≡ 44 → y₁ ≡ bytesOf c → y₂ ≡ bytesOf p → y₃ ≡ trailerBytes
-      → putMid 394 8 (putMid 350 44 (putMid 0 350 out y₁) y₂) y₃ ≡ encoded s
-  unfolding encoded
-  record-written h l₁ l₂ e₁ e₂ e₃ =
-      let k₂ : length (y₁ ++ y₂) ≡ 394 = omega (arith, length-append y₁ y₂, l₁, l₂) in
-      let k₃ : length ((y₁ ++ y₂) ++ trailerBytes) ≡ 402 = omega (arith, length-append (y₁ ++ y₂) trailerBytes, k₂, trailer-length) in
-      let s₁ = laid-more 0 350 y₁ y₁ (laid-none 402 out h) refl l₁ (omega arith) refl in
+  pub body-written : length out ≡ 394 → length y₁ ≡ 350 → length y₂ ≡ 44 → y₁ ≡ bytesOf c → y₂ ≡ bytesOf p → putMid 350 44 (putMid 0 350 out y₁) y₂ ≡ bytesOf (numbersOf s)
+  body-written h l₁ l₂ e₁ e₂ =
+      let s₁ = laid-more 0 350 y₁ y₁ (laid-none 394 out h) refl l₁ (omega arith) refl in
       let s₂ = laid-more 350 44 y₂ y₂ s₁ l₁ l₂ (omega arith) refl in
-      let s₃ = laid-more 394 8 y₃ trailerBytes s₂ k₂ trailer-length (omega arith) e₃ in
-      laid-done s₃ k₃
-      ∙ ap (λ (l : List ℕ). l ++ trailerBytes) (ap₂ _++_ e₁ e₂ ∙ sym (bytes-append c p) ∙ ap bytesOf numbers-are)
+      laid-done s₂ (omega (arith, length-append y₁ y₂, l₁, l₂)) ∙ ap₂ _++_ e₁ e₂ ∙ sym (bytes-append c p) ∙ ap bytesOf numbers-are
+
+  pub record-written : length out ≡ 402 → length y₁ ≡ 394 → y₁ ≡ bytesOf (numbersOf s) → y₂ ≡ trailerBytes → putMid 394 8 (putMid 0 394 out y₁) y₂ ≡ encoded s
+  unfolding encoded
+  record-written h l₁ e₁ e₂ =
+      let k : length (y₁ ++ trailerBytes) ≡ 402 = omega (arith, length-append y₁ trailerBytes, l₁, trailer-length) in
+      let s₁ = laid-more 0 394 y₁ y₁ (laid-none 402 out h) refl l₁ (omega arith) refl in
+      let s₂ = laid-more 394 8 y₂ trailerBytes s₁ l₁ trailer-length (omega arith) e₂ in
+      laid-done s₂ k ∙ ap (λ (l : List ℕ). l ++ trailerBytes) e₁
 
 -- ---- the call
 module _ (s : State) (out : List ℕ) where

@@ -6,7 +6,7 @@ ghost use lib.ListN.{length};
 ghost use denote.Ref.{ptr};
 ghost use Rattle.lists.specs.Lists.{at};
 ghost use Rattle.state.specs.Outcome.{firstMet};
-ghost use Rattle.state.specs.State.{stateRows, stateOf};
+ghost use Rattle.state.specs.State.{stateRows, stateOf, numbersOf};
 ghost use Rattle.record.specs.Bytes.{signed16, bits16, unsigned, words, bytesOf};
 ghost use Rattle.record.specs.Record.{trailerRows, zeroState, recordVerdict, readCall, told, trailerBytes, encoded, written, writeCall};
 use basicop::Q14;
@@ -188,7 +188,8 @@ fn post_in(body: &[u8]) -> Postfilter
     }
 }
 
-fn state_in(body: &[u8]) -> State
+// The state of a body.
+pub fn state_in(body: &[u8]) -> State
     requires { ⌜ length (now body) ≡ 394 ⌝ }
     ensures { λ r. ⌜ r ≡ stateOf (words (now (body .entry))) ⌝ }
 {
@@ -294,14 +295,22 @@ fn write_trailer(out: &mut [u8])
     put(&mut out[2..8], &fields);
 }
 
-fn write_record(state: State, out: &mut [u8])
-    requires { ⌜ length (now out) ≡ 402 ⌝ }
-    ensures { λ _. ⌜ now (out .exit) ≡ encoded state ⌝ }
+// The body of a state.
+pub fn write_body(state: State, out: &mut [u8])
+    requires { ⌜ length (now out) ≡ 394 ⌝ }
+    ensures { λ _. ⌜ now (out .exit) ≡ bytesOf (numbersOf state) ⌝ }
 {
     let core = state.core;
     write_core(core, &mut out[0..350]);
     let post = state.post;
     write_post(post, &mut out[350..394]);
+}
+
+fn write_record(state: State, out: &mut [u8])
+    requires { ⌜ length (now out) ≡ 402 ⌝ }
+    ensures { λ _. ⌜ now (out .exit) ≡ encoded state ⌝ }
+{
+    write_body(state, &mut out[0..394]);
     write_trailer(&mut out[394..402]);
 }
 

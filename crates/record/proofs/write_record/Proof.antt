@@ -8,22 +8,16 @@ use Rattle.record.proofs.write_record.Tie as tie
 
 returns : tie.Need-returns
 returns c =
-    let p₃ = c .before .before in
-    let p₂ = p₃ .before .before .before .before in
-    let p₁ = p₂ .before .before .before .before .before in
-    let s = p₁ .before .before .before .before in
-    let k₁ : length (p₁ .write-core .last .1 .0) ≡ 350 = search needs in
-    let k₂ : length (p₂ .write-post .last .1 .0) ≡ 44 = search needs in
-    record-written (s .args .state) (now (s .args .out)) (p₁ .write-core .last .1 .0) (p₂ .write-post .last .1 .0) (p₃ .write-trailer .last .0) (s .pre) k₁ k₂ (p₁ .write-core .ensures) (p₂ .write-post .ensures) (p₃ .write-trailer .ensures)
+    let p₂ = c .before .before in
+    let p₁ = p₂ .before .before .before .before in
+    let s = p₁ .before .before .before in
+    let k₁ : length (p₁ .write-body .last .1 .0) ≡ 394 = search needs in
+    record-written (s .args .state) (now (s .args .out)) (p₁ .write-body .last .1 .0) (p₂ .write-trailer .last .0) (s .pre) k₁ (p₁ .write-body .ensures) (p₂ .write-trailer .ensures)
 
 pub write-record-spec : {M : Type 1} → statement M
 write-record-spec =
     tie.close
     (tie.spec
-    (λ c. search needs)
-    (λ c. search needs)
-    (λ c. search needs)
-    (λ c κs. search needs)
     (λ c. search needs)
     (λ c. search needs)
     (λ c. search needs)

@@ -1,0 +1,4 @@
+-- Codes: what number and place lie in. Buffers: what is lent, part by part. Calls: the three calls, case by case.
+pub mod Codes
+pub mod Buffers
+pub mod Calls

@@ -1,0 +1,101 @@
+-- The frame call, the reader and the writer over bytes. Numbers of 16 bits are two bytes, low byte first. A state is the 394 bytes of a record's body.
+use mathlib.Core.Bool.{Bool, cond, _&&_}
+use mathlib.Core.List.{List, [], map, _++_}
+use Prim.Native.Nat.{ℕ, _+_, _*_}
+use lib.Dec.{eqb}
+use lib.IntN.{ℤ, pos}
+use lib.ListN.{length, replicate}
+use Rattle.lpc.specs.declared.Rows.{Rows}
+use Rattle.state.specs.declared.State.{State}
+use Rattle.state.specs.declared.Outcome.{Outcome}
+use Rattle.state.specs.Outcome.{numberOf, placeOf, isAccepted}
+use Rattle.state.specs.State.{stateOf, numbersOf}
+use Rattle.record.specs.Bytes.{words, bytesOf}
+use Rattle.record.specs.Record.{Told, readCall, Written, writeCall}
+use Rattle.mr74.specs.Frame.{Called, frameCall}
+
+-- returned where a lent state, rows or flags has another length than its own: no number of the paper's. Nothing lent is changed then
+abbrev pub unfit : ℕ
+unfit = 255
+
+-- number and place in one
+abbrev pub codeOf : Outcome → ℕ
+codeOf o = numberOf o + 256 * placeOf o
+
+abbrev pub stateIn : List ℕ → State
+stateIn bytes = stateOf (words bytes)
+
+abbrev pub stateBytes : State → List ℕ
+stateBytes s = bytesOf (numbersOf s)
+
+-- ---- the frame call
+-- the sheet's numbers: none where it has not 364 bytes, which the frame call refuses
+abbrev pub sheetIn : List ℕ → List ℤ
+sheetIn sheet = cond (eqb (length sheet) 364) (words sheet) []
+
+-- the room for samples in a lent output: none where it has not 320 bytes, which the frame call refuses
+abbrev pub roomOf : ℕ → ℕ
+roomOf bytes = cond (eqb bytes 320) 160 0
+
+abbrev pub roomIn : List ℕ → List ℤ
+roomIn out = replicate (roomOf (length out)) (pos 0)
+
+-- the lent output after the call: a refused one leaves it
+abbrev pub outAfter : Called → List ℕ → List ℕ
+outAfter c out = cond (isAccepted (c .answer .outcome)) (bytesOf (c .lent)) out
+
+-- the four rows one after another
+abbrev pub rowBytes : Rows → List ℕ
+rowBytes r = bytesOf (r .a ++ (r .b ++ (r .c ++ r .d)))
+
+-- a byte for each flag
+abbrev pub flagBytes : List Bool → List ℕ
+flagBytes flags = map (λ (flag : Bool). cond flag 1 0) flags
+
+-- the returned number, and what was lent
+pub record FrameLeft : Type 0 where
+  pub code : ℕ
+  pub state : List ℕ
+  pub out : List ℕ
+  pub rows : List ℕ
+  pub flags : List ℕ
+
+abbrev pub frameLeft : ℕ → List ℕ → List ℕ → List ℕ → List ℕ → FrameLeft
+frameLeft code state out rows flags = record { code = code; state = state; out = out; rows = rows; flags = flags }
+
+unfoldable pub frameBytes : List ℕ → List ℕ → List ℕ → List ℕ → List ℕ → FrameLeft
+frameBytes sheet state out rows flags =
+    let c = frameCall (sheetIn sheet) (stateIn state) (roomIn out) in
+    let a = c .answer in
+    cond (eqb (length state) 394 && (eqb (length rows) 88 && eqb (length flags) 4))
+    (frameLeft (codeOf (a .outcome)) (stateBytes (a .next)) (outAfter c out) (rowBytes (a .rows)) (flagBytes (a .flags)))
+    (frameLeft unfit state out rows flags)
+
+-- ---- the reader
+-- the returned number, the lent state, and the lent number: the length of the note, which is what the record begins with
+pub record ReadLeft : Type 0 where
+  pub code : ℕ
+  pub state : List ℕ
+  pub note : ℕ
+
+abbrev pub readLeft : ℕ → List ℕ → ℕ → ReadLeft
+readLeft code state note = record { code = code; state = state; note = note }
+
+unfoldable pub readBytes : List ℕ → List ℕ → ℕ → ReadLeft
+readBytes bytes state note =
+    let t = readCall bytes in
+    cond (eqb (length state) 394) (readLeft (codeOf (t .answer .outcome)) (stateBytes (t .answer .state)) (length (t .note))) (readLeft unfit state note)
+
+-- ---- the writer
+-- the returned number, and the lent record
+pub record WriteLeft : Type 0 where
+  pub code : ℕ
+  pub lent : List ℕ
+
+abbrev pub writeLeft : ℕ → List ℕ → WriteLeft
+writeLeft code lent = record { code = code; lent = lent }
+
+unfoldable pub writeBytes : List ℕ → List ℕ → WriteLeft
+writeBytes state lent =
+    let w = writeCall (stateIn state) lent in
+    cond (eqb (length state) 394) (writeLeft (codeOf (w .outcome)) (w .lent)) (writeLeft unfit lent)

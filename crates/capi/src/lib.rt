@@ -1,0 +1,174 @@
+// The frame call, the reader and the writer over bytes, exported for C and Rust (c/mr74.h).
+ghost use mathlib.Core.Path.{_≡_};
+ghost use Prim.Native.Nat.{_≤_, _<_};
+ghost use lib.ListN.{length, take};
+ghost use Rattle.state.specs.Outcome.{placeOf};
+ghost use Rattle.mr74.specs.Frame.{called, frameCall};
+ghost use Rattle.capi.specs.Capi.{codeOf, sheetIn, roomOf, roomIn, outAfter, rowBytes, flagBytes, stateBytes, frameLeft, frameBytes, readLeft, readBytes, writeLeft, writeBytes};
+use lpc::Rows;
+use mr74::FrameAnswer;
+use state::Outcome;
+use state::State;
+
+const STATE_BYTES: usize = 394;
+
+const ROWS_BYTES: usize = 88;
+
+const FLAGS_BYTES: usize = 4;
+
+// What is returned where a lent state, rows or flags has another length.
+const UNFIT: u32 = 255;
+
+// Number and place in one.
+fn code(outcome: Outcome) -> u32
+    requires { ⌜ placeOf outcome < 10 ⌝ }
+    ensures { λ r. ⌜ r ≡ codeOf outcome ⌝ }
+{
+    let number = outcome.number() as u32;
+    let place = outcome.place() as u32;
+    number + 256 * place
+}
+
+// ---- the frame call
+// The sheet's numbers, as many as are returned: all, or none where it has not 364 bytes.
+fn sheet_in(sheet: &[u8], numbers: &mut [i16]) -> usize
+    requires { ⌜ length (now numbers) ≡ 182 ⌝ }
+    ensures { λ r. ⌜ (r ≤ 182) × (take r (now (numbers .exit)) ≡ sheetIn (now (sheet .entry))) ⌝ }
+{
+    if sheet.len() != 364 {
+        return 0;
+    }
+    record::fill(numbers, sheet);
+    182
+}
+
+// The samples that so many bytes have room for: all, or none.
+fn room(bytes: usize) -> usize
+    ensures { λ r. ⌜ r ≡ roomOf bytes ⌝ }
+{
+    if bytes == 320 { 160 } else { 0 }
+}
+
+// The call of a sheet's bytes.
+fn frame_in(sheet: &[u8], state: State, samples: &mut [i16]) -> FrameAnswer
+    ensures { λ r. ⌜ called r (now (samples .exit)) ≡ frameCall (sheetIn (now (sheet .entry))) state (now (samples .entry)) ⌝ }
+{
+    let mut numbers = [0i16; 182];
+    let n = sheet_in(sheet, &mut numbers);
+    mr74::frame(&numbers[0..n], state, samples)
+}
+
+// The same with the samples' bytes.
+fn frame_out(sheet: &[u8], state: State, out: &mut [u8]) -> FrameAnswer
+    ensures { λ r. ⌜ r ≡ frameCall (sheetIn (now (sheet .entry))) state (roomIn (now (out .entry))) .answer ⌝ }
+    ensures { λ _. ⌜ now (out .exit) ≡ outAfter (frameCall (sheetIn (now (sheet .entry))) state (roomIn (now (out .entry)))) (now (out .entry)) ⌝ }
+{
+    let mut samples = [0i16; 160];
+    let n = room(out.len());
+    let answer = frame_in(sheet, state, &mut samples[0..n]);
+    let outcome = answer.outcome;
+    if outcome.accepted() {
+        record::put(out, &samples);
+        return answer;
+    }
+    answer
+}
+
+// The four rows one after another.
+fn write_rows(rows: Rows, out: &mut [u8])
+    requires { ⌜ length (now out) ≡ 88 ⌝ }
+    ensures { λ _. ⌜ now (out .exit) ≡ rowBytes rows ⌝ }
+{
+    let a = rows.a;
+    record::put(&mut out[0..22], &a);
+    let b = rows.b;
+    record::put(&mut out[22..44], &b);
+    let c = rows.c;
+    record::put(&mut out[44..66], &c);
+    let d = rows.d;
+    record::put(&mut out[66..88], &d);
+}
+
+// A byte for each flag.
+fn write_flags(flags: [bool; 4], out: &mut [u8])
+    requires { ⌜ length (now out) ≡ 4 ⌝ }
+    ensures { λ _. ⌜ now (out .exit) ≡ flagBytes flags ⌝ }
+{
+    out[0] = flags[0] as u8;
+    out[1] = flags[1] as u8;
+    out[2] = flags[2] as u8;
+    out[3] = flags[3] as u8;
+}
+
+// What an answer leaves in what was lent beside the output.
+fn give(answer: FrameAnswer, state: &mut [u8], rows: &mut [u8], flags: &mut [u8]) -> u32
+    requires { ⌜ (length (now state) ≡ 394) × ((length (now rows) ≡ 88) × (length (now flags) ≡ 4)) ⌝ }
+    requires { ⌜ placeOf (answer .outcome) < 10 ⌝ }
+    ensures { λ r. ⌜ r ≡ codeOf (answer .outcome) ⌝ }
+    ensures { λ _. ⌜ now (state .exit) ≡ stateBytes (answer .next) ⌝ }
+    ensures { λ _. ⌜ now (rows .exit) ≡ rowBytes (answer .rows) ⌝ }
+    ensures { λ _. ⌜ now (flags .exit) ≡ flagBytes (answer .flags) ⌝ }
+{
+    let next = answer.next;
+    record::write_body(next, state);
+    let four = answer.rows;
+    write_rows(four, rows);
+    let retried = answer.flags;
+    write_flags(retried, flags);
+    let outcome = answer.outcome;
+    code(outcome)
+}
+
+#[no_mangle]
+pub extern "C" fn mr74_frame(
+    sheet: &[u8],
+    state: &mut [u8],
+    out: &mut [u8],
+    rows: &mut [u8],
+    flags: &mut [u8],
+) -> u32
+    ensures { λ r. ⌜ frameLeft r (now (state .exit)) (now (out .exit)) (now (rows .exit)) (now (flags .exit)) ≡ frameBytes (now (sheet .entry)) (now (state .entry)) (now (out .entry)) (now (rows .entry)) (now (flags .entry)) ⌝ }
+{
+    if state.len() != STATE_BYTES {
+        return UNFIT;
+    }
+    if rows.len() != ROWS_BYTES {
+        return UNFIT;
+    }
+    if flags.len() != FLAGS_BYTES {
+        return UNFIT;
+    }
+    let before = record::state_in(state);
+    let answer = frame_out(sheet, before, out);
+    give(answer, state, rows, flags)
+}
+
+// ---- the reader
+#[no_mangle]
+pub extern "C" fn mr74_read(bytes: &[u8], state: &mut [u8], note: &mut usize) -> u32
+    ensures { λ r. ⌜ readLeft r (now (state .exit)) (now (note .exit)) ≡ readBytes (now (bytes .entry)) (now (state .entry)) (now (note .entry)) ⌝ }
+{
+    if state.len() != STATE_BYTES {
+        return UNFIT;
+    }
+    let answer = record::answer_of(bytes);
+    let found = answer.state;
+    record::write_body(found, state);
+    let part = record::note(bytes);
+    *note = part.len();
+    let outcome = answer.outcome;
+    code(outcome)
+}
+
+// ---- the writer
+#[no_mangle]
+pub extern "C" fn mr74_write(state: &[u8], bytes: &mut [u8]) -> u32
+    ensures { λ r. ⌜ writeLeft r (now (bytes .exit)) ≡ writeBytes (now (state .entry)) (now (bytes .entry)) ⌝ }
+{
+    if state.len() != STATE_BYTES {
+        return UNFIT;
+    }
+    let written = record::state_in(state);
+    let outcome = record::write(written, bytes);
+    code(outcome)
+}
