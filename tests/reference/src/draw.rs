@@ -85,7 +85,7 @@ fn numbers<const N: usize>(mut draw: impl FnMut() -> i16) -> [i16; N] {
 }
 
 /// Numbers within a limit on both sides, the limit drawn too, from silence to full scale.
-fn level(random: &mut Random) -> i16 {
+pub fn level(random: &mut Random) -> i16 {
     random.of(&[0, 1, 3, 30, 300, 3000, 12000, 32767])
 }
 
@@ -122,7 +122,7 @@ pub fn gaps_kept(lsf: &[i16]) -> bool {
 const SLACK: i16 = 16384 - 10 * 205;
 
 /// LSFs with their gaps kept: 205 apart, and sorted slack on top.
-fn kept(random: &mut Random) -> [i16; LSFS] {
+pub fn kept(random: &mut Random) -> [i16; LSFS] {
     let (low, high) = match random.range(0, 9) {
         0 => (0, 0),
         1 => (SLACK, SLACK),
@@ -138,7 +138,7 @@ fn kept(random: &mut Random) -> [i16; LSFS] {
 }
 
 /// LSFs as speech has them: spread over the band, and each a little off its place.
-fn spread(random: &mut Random) -> [i16; LSFS] {
+pub fn spread(random: &mut Random) -> [i16; LSFS] {
     let mut slack: [i16; LSFS] =
         std::array::from_fn(|index| 1300 * index as i16 + 400 + random.word(-600, 600));
     slack.sort_unstable();
@@ -146,7 +146,7 @@ fn spread(random: &mut Random) -> [i16; LSFS] {
 }
 
 /// LSFs with a gap broken.
-fn broken(random: &mut Random) -> [i16; LSFS] {
+pub fn broken(random: &mut Random) -> [i16; LSFS] {
     loop {
         let mut lsf = kept(random);
         match random.range(0, 7) {
@@ -620,7 +620,7 @@ pub fn postfilter(file: &File, random: &mut Random) -> Records {
 
 /// How loud a drawn sheet is.
 #[derive(Clone, Copy)]
-enum Loudness {
+pub enum Loudness {
     Speech,
     Loud,
     Any,
@@ -671,7 +671,7 @@ fn pitch(random: &mut Random) -> [i16; SUBFRAMES] {
     })
 }
 
-fn sheet(random: &mut Random, lsf: [i16; LSFS], loudness: Loudness) -> Vec<i16> {
+pub fn sheet(random: &mut Random, lsf: [i16; LSFS], loudness: Loudness) -> Vec<i16> {
     let mut sheet = lsf.to_vec();
     sheet.extend(pitch(random));
     for _ in 0..SUBFRAMES {
@@ -685,7 +685,7 @@ fn sheet(random: &mut Random, lsf: [i16; LSFS], loudness: Loudness) -> Vec<i16> 
 }
 
 /// An accepted state, its samples within a limit.
-fn state(random: &mut Random, limit: i16) -> Vec<i16> {
+pub fn state(random: &mut Random, limit: i16) -> Vec<i16> {
     let mut state: [i16; STATE] = if limit == 32767 {
         signal(random)
     } else {

@@ -1,0 +1,367 @@
+//! `differential [FRAMES [SEED]]`: the static library against the reference, on FRAMES chained frames (200000) from a seed,
+//! and on sheets, buffers and records of every length about each boundary. Every byte that a call leaves is compared.
+
+use differential::{
+    FLAGS_BYTES, Lent, OUT_BYTES, ROWS_BYTES, SHEET_BYTES, STATE_BYTES, bytes, read,
+    reference_read, reference_write, write,
+};
+use reference::{
+    LSFS, SHEET, STATE, at,
+    draw::{self, Loudness},
+    random::Random,
+    record,
+    report::Report,
+};
+use std::{env, process::ExitCode};
+
+/// The kinds of chains: sheets, and how often a chain begins anew from a drawn state.
+const KINDS: [(&str, u64); 6] = [
+    ("speech, gaps kept", 1000),
+    ("loud, gaps kept", 500),
+    ("any gains and innovation, gaps kept", 100),
+    ("any gains and innovation, gaps broken", 100),
+    ("extreme sheets, extreme states", 12),
+    ("all kinds in turn", 300),
+];
+
+fn drawn(random: &mut Random, kind: usize) -> Vec<i16> {
+    match kind {
+        0 => {
+            let lsf = draw::spread(random);
+            draw::sheet(random, lsf, Loudness::Speech)
+        }
+        1 => {
+            let lsf = draw::kept(random);
+            draw::sheet(random, lsf, Loudness::Loud)
+        }
+        2 => {
+            let lsf = draw::kept(random);
+            draw::sheet(random, lsf, Loudness::Any)
+        }
+        3 => {
+            let lsf = draw::broken(random);
+            draw::sheet(random, lsf, Loudness::Any)
+        }
+        4 => extreme(random),
+        _ => {
+            let kind = random.range(0, 4) as usize;
+            drawn(random, kind)
+        }
+    }
+}
+
+/// LSFs, indices, gains and innovation at their ends.
+fn extreme(random: &mut Random) -> Vec<i16> {
+    let lsf = match random.range(0, 3) {
+        0 => [random.of(&[0, 16384]); LSFS],
+        1 => std::array::from_fn(|_| random.of(&[0, 16384])),
+        2 => draw::broken(random),
+        _ => draw::kept(random),
+    };
+    let mut sheet = draw::sheet(random, lsf, Loudness::Any);
+    for subframe in 0..4 {
+        sheet[at::PITCH + subframe] = random.of(&[0, if subframe % 2 == 0 { 255 } else { 31 }]);
+    }
+    for gain in &mut sheet[at::GAINS..at::INNOVATION] {
+        *gain = random.of(&[0, 32767, 32767]);
+    }
+    let same = random.of(&[-32768, 32767]);
+    let all = random.once_in(3);
+    for number in &mut sheet[at::INNOVATION..] {
+        *number = if all { same } else { random.edge() };
+    }
+    sheet
+}
+
+fn opening(random: &mut Random, kind: usize) -> Vec<i16> {
+    match kind {
+        0 if random.once_in(2) => vec![0; STATE],
+        0 | 1 => draw::state(random, 3000),
+        4 => {
+            let same = random.of(&[-32768, 32767]);
+            let all = random.once_in(2);
+            let mut state: Vec<i16> = (0..STATE)
+                .map(|_| if all { same } else { random.edge() })
+                .collect();
+            state[at::SHARPENING] = random.of(&[0, 13017]);
+            state[at::GAIN] = random.of(&[0, 32767]);
+            state
+        }
+        _ => {
+            let limit = draw::level(random);
+            draw::state(random, limit)
+        }
+    }
+}
+
+/// Puts a number outside its range into a sheet.
+fn damage(random: &mut Random, sheet: &mut [i16]) {
+    let negative = random.of(&[-1, -2, -32768]);
+    let beyond = random.of(&[1, 2, 1000]);
+    match random.range(0, 2) {
+        0 => sheet[random.range(0, 9) as usize] = random.of(&[negative, 16384 + beyond, 32767]),
+        1 => {
+            let subframe = random.range(0, 3) as usize;
+            let last = if subframe % 2 == 0 { 255 } else { 31 };
+            sheet[at::PITCH + subframe] = random.of(&[negative, last + beyond, 32767]);
+        }
+        _ => sheet[at::GAINS + random.range(0, 7) as usize] = negative,
+    }
+}
+
+/// Both calls on the same bytes; the state that ours left goes on.
+fn same(lent: &mut Lent, sheet: &[u8]) -> bool {
+    let mut reference = lent.clone();
+    lent.ours(sheet);
+    reference.reference(sheet);
+    *lent == reference
+}
+
+fn chained(report: &mut Report, random: &mut Random, kind: usize, frames: u64) {
+    let (name, turns) = KINDS[kind];
+    let mut lent = Lent::new(&opening(random, kind), 0);
+    let (mut retried, mut refused) = (0, 0);
+    for frame in 0..frames {
+        if frame % turns == turns - 1 {
+            lent.state = bytes(&opening(random, kind));
+        }
+        let mut sheet = drawn(random, kind);
+        while random.once_in(24) {
+            damage(random, &mut sheet);
+        }
+        let before = lent.clone();
+        if !same(&mut lent, &bytes(&sheet)) {
+            report.line(false, &format!("{name}: frame {frame}"));
+            println!(
+                "sheet {sheet:?}\nstate {:?}",
+                differential::words(&before.state)
+            );
+            return;
+        }
+        if lent.code == 0 {
+            retried += lent.flags.iter().filter(|flag| **flag == 1).count();
+        } else {
+            refused += 1;
+        }
+    }
+    report.line(
+        true,
+        &format!("{name}: {frames} frames, {retried} subframes retried, {refused} frames refused"),
+    );
+}
+
+/// Runs cases and tells the first that differs.
+fn all<T: std::fmt::Debug>(
+    report: &mut Report,
+    name: &str,
+    cases: impl IntoIterator<Item = T>,
+    mut good: impl FnMut(&T) -> bool,
+) {
+    let mut count = 0;
+    for case in cases {
+        if !good(&case) {
+            report.line(false, &format!("{name}: {case:?}"));
+            return;
+        }
+        count += 1;
+    }
+    report.line(true, &format!("{name}: {count}"));
+}
+
+fn lengths(report: &mut Report, random: &mut Random) {
+    let lsf = draw::spread(random);
+    let mut sheet = bytes(&draw::sheet(random, lsf, Loudness::Speech));
+    sheet.extend((0..400).map(|_| random.bits() as u8));
+    let state = draw::state(random, 3000);
+    let opening = Lent::new(&state, 0x5A);
+    let cut = |vector: &mut Vec<u8>, length: usize| vector.resize(length, 0x5A);
+    let whole = &sheet[..SHEET_BYTES];
+    all(report, "sheets of each length", 0..=700, |&length| {
+        same(&mut opening.clone(), &sheet[..length])
+    });
+    all(report, "outputs of each length", 0..=700, |&length| {
+        let mut lent = opening.clone();
+        cut(&mut lent.out, length);
+        same(&mut lent, whole)
+    });
+    all(report, "states of each length", 0..=800, |&length| {
+        let mut lent = opening.clone();
+        cut(&mut lent.state, length);
+        same(&mut lent, whole)
+    });
+    all(report, "rows of each length", 0..=200, |&length| {
+        let mut lent = opening.clone();
+        cut(&mut lent.rows, length);
+        same(&mut lent, whole)
+    });
+    all(report, "flags of each length", 0..=16, |&length| {
+        let mut lent = opening.clone();
+        cut(&mut lent.flags, length);
+        same(&mut lent, whole)
+    });
+    let near = |length: usize| [length - 2, length - 1, length, length + 1, length + 2];
+    let mut several = Vec::new();
+    for sheet in near(SHEET_BYTES) {
+        for out in near(OUT_BYTES) {
+            for state in near(STATE_BYTES) {
+                for rows in near(ROWS_BYTES) {
+                    for flags in near(FLAGS_BYTES) {
+                        several.push((sheet, out, state, rows, flags));
+                    }
+                }
+            }
+        }
+    }
+    all(
+        report,
+        "sheet, output, state, rows and flags about their lengths",
+        several,
+        |&(length, out, state, rows, flags)| {
+            let mut lent = opening.clone();
+            cut(&mut lent.out, out);
+            cut(&mut lent.state, state);
+            cut(&mut lent.rows, rows);
+            cut(&mut lent.flags, flags);
+            same(&mut lent, &sheet[..length])
+        },
+    );
+}
+
+/// Every number of a sheet and the two tested numbers of a state, at each value about their limits.
+fn limits(report: &mut Report, random: &mut Random) {
+    let lsf = draw::spread(random);
+    let sheet = draw::sheet(random, lsf, Loudness::Speech);
+    let state = draw::state(random, 3000);
+    const ABOUT: [i16; 18] = [
+        -32768, -32767, -2, -1, 0, 1, 30, 31, 32, 33, 254, 255, 256, 257, 16383, 16384, 16385,
+        32767,
+    ];
+    let cases = (0..SHEET).flat_map(|place| ABOUT.map(|number| (place, number)));
+    all(
+        report,
+        "a sheet's numbers about their limits",
+        cases,
+        |&(place, number)| {
+            let mut sheet = sheet.clone();
+            sheet[place] = number;
+            same(&mut Lent::new(&state, 0x5A), &bytes(&sheet))
+        },
+    );
+    let numbers = [-32768, -1, 0, 1, 13016, 13017, 13018, 32766, 32767];
+    let cases = numbers
+        .iter()
+        .flat_map(|&sharpening| numbers.map(|gain| (sharpening, gain)));
+    let spoilt = |sharpening: i16, gain: i16| {
+        let mut state = state.clone();
+        state[at::SHARPENING] = sharpening;
+        state[at::GAIN] = gain;
+        state
+    };
+    all(
+        report,
+        "sharpening and smoothed gain about their limits: frame, read, write",
+        cases,
+        |&(sharpening, gain)| {
+            let state = spoilt(sharpening, gain);
+            let mut record = bytes(&state);
+            record.extend(record::TRAILER);
+            same(&mut Lent::new(&state, 0x5A), &bytes(&sheet))
+                && reads(&record, STATE_BYTES)
+                && writes(&bytes(&state), record::RECORD)
+        },
+    );
+}
+
+fn reads(record: &[u8], room: usize) -> bool {
+    read(record, room) == reference_read(record, room)
+}
+
+fn writes(state: &[u8], room: usize) -> bool {
+    write(state, room) == reference_write(state, room)
+}
+
+fn records(report: &mut Report, random: &mut Random) {
+    let mut long: Vec<u8> = (0..600).map(|_| random.bits() as u8).collect();
+    long.extend(bytes(&draw::state(random, 32767)));
+    long.extend(record::TRAILER);
+    let end = long.len();
+    all(
+        report,
+        "records behind notes of each length",
+        0..=end,
+        |&from| reads(&long[from..], STATE_BYTES),
+    );
+    all(report, "records cut at each length", 0..=end, |&to| {
+        reads(&long[..to], STATE_BYTES)
+    });
+    all(
+        report,
+        "reads into states of each length",
+        0..=800,
+        |&room| reads(&long, room),
+    );
+    let cases = (0..8).flat_map(|place| (0..=255u8).map(move |byte| (place, byte)));
+    all(
+        report,
+        "each value of each byte of a trailer",
+        cases,
+        |&(place, byte)| {
+            let mut record = long.clone();
+            record[end - 8 + place] = byte;
+            reads(&record, STATE_BYTES)
+        },
+    );
+    all(report, "records with some bytes changed", 0..20_000, |_| {
+        let mut record = long[600 - random.range(0, 600) as usize..].to_vec();
+        for _ in 0..random.range(1, 4) {
+            let last = record.len() as i64 - 1;
+            let from = if random.once_in(2) { last - 12 } else { 0 };
+            record[random.range(from, last) as usize] = random.bits() as u8;
+        }
+        reads(&record, STATE_BYTES)
+    });
+    let body = &long[600..600 + STATE_BYTES];
+    all(
+        report,
+        "writes into records of each length",
+        0..=800,
+        |&room| writes(body, room),
+    );
+    all(
+        report,
+        "writes of states of each length",
+        0..=end,
+        |&length| writes(&long[..length], record::RECORD),
+    );
+    all(report, "states written and read back", 0..5_000, |_| {
+        let limit = draw::level(random);
+        let state = bytes(&draw::state(random, limit));
+        let (code, written) = write(&state, record::RECORD);
+        let back = read(&written, STATE_BYTES);
+        code == 0 && writes(&state, record::RECORD) && back == (0, state, 0)
+    });
+}
+
+fn main() -> ExitCode {
+    let mut arguments = env::args().skip(1).map(|word| word.parse::<u64>());
+    let frames = arguments.next().unwrap_or(Ok(200_000));
+    let seed = arguments.next().unwrap_or(Ok(74));
+    let (Ok(frames), Ok(seed)) = (frames, seed) else {
+        eprintln!("differential [FRAMES [SEED]]");
+        return ExitCode::FAILURE;
+    };
+    let mut report = Report::default();
+    let mut random = Random::new(seed);
+    lengths(&mut report, &mut random);
+    limits(&mut report, &mut random);
+    records(&mut report, &mut random);
+    for kind in 0..KINDS.len() {
+        let share = frames.div_ceil(KINDS.len() as u64);
+        chained(&mut report, &mut random, kind, share);
+    }
+    if report.end() {
+        ExitCode::SUCCESS
+    } else {
+        ExitCode::FAILURE
+    }
+}
