@@ -1,0 +1,5 @@
+-- Peaks: the largest of a list, the mark, four flags. Decimals: the digits of a number. Puts: bytes put after bytes. Laid: each line, field by field.
+pub mod Peaks
+pub mod Decimals
+pub mod Puts
+pub mod Laid

@@ -1,0 +1,73 @@
+-- The largest of a list, folded from its first entry, any of four flags, and the mark. Assumes nothing.
+use mathlib.Core.Path.{_≡_, refl}
+use mathlib.Core.Bool.{Bool, true, false, cond, _||_}
+use mathlib.Core.List.{List, [], _∷_, map, foldl}
+use Prim.Native.Nat.{_<_, _^_}
+use native.Mathlib.Omega.{arith}
+use lib.Dec.{ltb}
+use lib.IntN.{ℤ, pos, negsuc}
+use lib.ListN.{length, getD}
+use lib.Signed.{ltZ, mag}
+use mir.Syntax.{w16, w32}
+use mir.Val.{toZ, ofZ, hbits}
+use mir.Facts.{toZ-ofZ}
+use Rattle.basicop.proofs.Range.{sfits-wider}
+use Rattle.lists.proofs.Signed.{back}
+use Rattle.lists.specs.Lists.{at}
+use Rattle.lines.specs.Lines.{larger, peakOf, anyOf, markOf, flagDigit}
+
+-- a sample that is read into a local of 32 bits
+pub widened : (z : ℤ) → mag z < 2 ^ hbits w16 → toZ w32 (ofZ w32 (toZ w16 (ofZ w16 z))) ≡ z
+widened z h = rw (back w16 {z = z} h) (toZ-ofZ (sfits-wider w32 z (2 ^ hbits w16) h tt))
+
+pub larger-right : (a b : ℤ) → ltZ a b ≡ true → b ≡ larger a b
+larger-right a b e = rw e
+
+pub larger-left : (a b : ℤ) → ltZ a b ≡ false → a ≡ larger a b
+larger-left a b e = rw e
+
+either : (t : Bool) (x : ℤ) → cond t x x ≡ x
+either true x = refl
+either false x = refl
+
+-- the fold may begin with the first entry once more
+pub peak-from : (xs : List ℤ) → 0 < length xs → foldl larger (at xs 0) xs ≡ peakOf xs
+unfolding peakOf
+peak-from [] h = absurd (omega (arith, h))
+peak-from (x ∷ xs) h = rw (either (ltZ x x) x)
+
+pub mark-loud : (peak : ℤ) (flags : List Bool) → ltZ peak (pos 32760) ≡ false → 0x4C ≡ markOf peak flags
+unfolding markOf
+mark-loud peak flags e = rw e
+
+pub mark-retried : (peak : ℤ) (flags : List Bool) → ltZ peak (pos 32760) ≡ true → anyOf flags ≡ true → 0x52 ≡ markOf peak flags
+unfolding markOf
+mark-retried peak flags e f = rw (e, f)
+
+pub mark-plain : (peak : ℤ) (flags : List Bool) → ltZ peak (pos 32760) ≡ true → anyOf flags ≡ false → 0x2D ≡ markOf peak flags
+unfolding markOf
+mark-plain peak flags e f = rw (e, f)
+
+four : (a b c d : Bool) → (((a || b) || c) || d) ≡ (a || (b || (c || (d || false))))
+four true b c d = refl
+four false true c d = refl
+four false false true d = refl
+four false false false true = refl
+four false false false false = refl
+
+pub any-four : (fs : List Bool) → length fs ≡ 4 → (((getD fs 0 false || getD fs 1 false) || getD fs 2 false) || getD fs 3 false) ≡ anyOf fs
+unfolding anyOf
+any-four [] h = absurd (omega (arith, h))
+any-four (a ∷ []) h = absurd (omega (arith, h))
+any-four (a ∷ b ∷ []) h = absurd (omega (arith, h))
+any-four (a ∷ b ∷ c ∷ []) h = absurd (omega (arith, h))
+any-four (a ∷ b ∷ c ∷ d ∷ []) h = four a b c d
+any-four (a ∷ b ∷ c ∷ d ∷ e ∷ r) h = absurd (omega (arith, h))
+
+pub digits-four : (fs : List Bool) → length fs ≡ 4 → flagDigit (getD fs 0 false) ∷ flagDigit (getD fs 1 false) ∷ flagDigit (getD fs 2 false) ∷ flagDigit (getD fs 3 false) ∷ [] ≡ map flagDigit fs
+digits-four [] h = absurd (omega (arith, h))
+digits-four (a ∷ []) h = absurd (omega (arith, h))
+digits-four (a ∷ b ∷ []) h = absurd (omega (arith, h))
+digits-four (a ∷ b ∷ c ∷ []) h = absurd (omega (arith, h))
+digits-four (a ∷ b ∷ c ∷ d ∷ []) h = refl
+digits-four (a ∷ b ∷ c ∷ d ∷ e ∷ r) h = absurd (omega (arith, h))
