@@ -15,6 +15,7 @@ pub mod draw;
 pub mod files;
 pub mod frame;
 pub mod model;
+pub mod program;
 pub mod random;
 pub mod record;
 pub mod report;

@@ -3,12 +3,13 @@
 use reference::{
     bench, coverage,
     files::{self, FILES, Field, File},
+    program,
     report::Report,
     values,
 };
 use std::{
     env, fs,
-    io::{self, Read},
+    io::{self, Read, Write},
     path::Path,
     process::ExitCode,
 };
@@ -20,7 +21,10 @@ reference check DIR      makes them again and compares them with the files in DI
 reference show FILE      prints a recorded file, one record a line
 reference coverage DIR   counts what the files in DIR cover
 reference layout         the tables of the files, in Markdown
-reference bench          the bench program's lines for standard input";
+reference bench          the bench program's lines for standard input
+reference bench PROGRAM  runs the bench program and compares its lines with these
+reference example        the bytes of examples/call.bin
+reference call SHEETS    the bytes of a record and SHEETS drawn sheets";
 
 fn main() -> ExitCode {
     let arguments: Vec<String> = env::args().skip(1).collect();
@@ -36,6 +40,11 @@ fn main() -> ExitCode {
             true
         }
         ["bench"] => bench(),
+        ["bench", program] => program::check(Path::new(program), Path::new("examples")),
+        ["example"] => put([program::example()]),
+        ["call", sheets] => sheets
+            .parse()
+            .is_ok_and(|sheets| put(program::call(1, sheets, 1000))),
         _ => {
             eprintln!("{USAGE}");
             false
@@ -166,4 +175,17 @@ fn bench() -> bool {
     }
     print!("{}", bench::lines(&input));
     true
+}
+
+/// Writes bytes to standard output.
+fn put(parts: impl IntoIterator<Item = Vec<u8>>) -> bool {
+    let mut out = io::BufWriter::new(io::stdout().lock());
+    let written = parts
+        .into_iter()
+        .try_for_each(|part| out.write_all(&part))
+        .and_then(|()| out.flush());
+    match written {
+        Ok(()) => true,
+        Err(error) => failed("standard output", error),
+    }
 }
