@@ -113,6 +113,46 @@ fn first_clamp(second: i16) {
     }
 }
 
+// of a frame whose other samples are -32768
+fn peak_of(sample: i16) {
+    let mut samples = [-32768i16; 160];
+    samples[159] = sample;
+    line(b"peak", sample as i32, lines::peak(samples));
+}
+
+fn peaks() {
+    peak_of(32759);
+    peak_of(32760);
+    peak_of(32767);
+    peak_of(-1);
+    peak_of(-32768);
+}
+
+// the mark of a peak, without a retry and with one in each subframe
+fn mark(peak: i32) {
+    io::write_all(STDOUT_FILENO, b"mark ");
+    print_signed(peak);
+    let marks = [
+        b':',
+        b' ',
+        lines::mark(peak, [false, false, false, false]),
+        lines::mark(peak, [true, false, false, false]),
+        lines::mark(peak, [false, true, false, false]),
+        lines::mark(peak, [false, false, true, false]),
+        lines::mark(peak, [false, false, false, true]),
+        b'\n',
+    ];
+    io::write_all(STDOUT_FILENO, &marks);
+}
+
+fn marks() {
+    mark(32759);
+    mark(32760);
+    mark(32767);
+    mark(-1);
+    mark(-32768);
+}
+
 fn main() {
     frequencies();
     lags();
@@ -121,4 +161,6 @@ fn main() {
     energies();
     first_clamp(0);
     first_clamp(1);
+    peaks();
+    marks();
 }
