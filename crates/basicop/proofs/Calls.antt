@@ -1,11 +1,9 @@
 -- Calls of operators, as a proof of a caller meets them. Assumes nothing.
-use mathlib.Core.Path.{_≡_, _∙_, ap, ap₂, sym}
-use mathlib.Core.Bool.{Bool, true, false, cond}
+use mathlib.Core.Path.{_≡_, _∙_, ap, ap₂}
 use Prim.Native.Nat.{ℕ}
 use borrow.Author.Needs.{needs, sfits-of}
 use lib.Dec.{lit<, lit≤}
 use lib.IntN.{ℤ}
-use lib.Signed.{leZ, ltZ}
 use mir.Syntax.{Width}
 use mir.Val.{SFits, toZ, ofZ}
 use mir.Facts.{toZ-ofZ}

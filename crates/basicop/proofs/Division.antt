@@ -1,9 +1,9 @@
 -- div_s: fifteen turns of shift and subtract come to the quotient (n · 32768) / d, rounded down and held to 32767, for 0 ≤ n ≤ d and 0 < d.
 -- Assumes nothing.
 use mathlib.Core.Path.{_≡_, refl, sym, ap, _∙_}
-use mathlib.Core.Bool.{Bool, true, false, cond}
+use mathlib.Core.Bool.{Bool, true, false}
 use Prim.Native.Nat.{ℕ, zero, suc, min, _+_, _*_, _-_, _/_, _^_, _<_, _≤_}
-use native.Mathlib.Nat.{pow-suc, pow-zero, div-eq-of-lt-le, mul-div-cancel-left, div-lt-iff-lt-mul}
+use native.Mathlib.Nat.{pow-suc, div-eq-of-lt-le, mul-div-cancel-left, div-lt-iff-lt-mul}
 use native.Mathlib.Omega.{arith}
 use borrow.Author.Tests.{leb-true, leb-false, eqb-true, eqb-false, eq-eqb, ne-eqb}
 use lib.Dec.{leb, eqb}

@@ -1,14 +1,14 @@
 -- ℤ by its two parts: z is up z - dn z, one of which is 0. Every linear fact over ℤ is one over ℕ.
-use mathlib.Core.Path.{_≡_, refl, sym, ap, _∙_, subst}
+use mathlib.Core.Path.{_≡_, refl, ap, subst}
 use mathlib.Core.Bool.{Bool, true, false, not, cond}
-use Prim.Native.Nat.{ℕ, zero, suc, max, _+_, _*_, _-_, _/_, _^_, _<_, _≤_}
+use Prim.Native.Nat.{ℕ, zero, suc, max, _+_, _*_, _-_, _^_, _<_, _≤_}
 use native.Mathlib.Omega.{arith}
 use native.Mathlib.Nat.{mul-le-mul-right}
-use lib.Dec.{T, leb, ltb, leb→le, le→leb, ltb→lt, lt→ltb, nltb→le, nleb→lt}
+use lib.Dec.{T, ltb, leb→le, le→leb, ltb→lt, lt→ltb, nltb→le}
 use lib.IntN.{ℤ, pos, negsuc, negℤ, _+ℤ_, _-ℤ_, _*ℤ_, subℕ}
-use lib.Signed.{_≤ℤ_, _<ℤ_, leZ, ltZ, mag, shrZ}
-use mir.Syntax.{Width, w8, w16, w32, w64, w128}
-use mir.Val.{SFits, hbits, toZ, ofZ, sel}
+use lib.Signed.{_≤ℤ_, _<ℤ_, leZ, ltZ, mag}
+use mir.Syntax.{Width}
+use mir.Val.{SFits, hbits}
 
 abbrev pub up : ℤ → ℕ
 up (pos n) = n

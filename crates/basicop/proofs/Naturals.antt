@@ -1,8 +1,7 @@
 -- The operators of numbers that are not negative, in ℕ. Assumes nothing.
 use mathlib.Core.Path.{_≡_, refl, ap, _∙_}
 use Prim.Native.Nat.{ℕ, min, _+_, _*_, _-_, _/_, _^_, _≤_}
-use native.Mathlib.Omega.{arith}
-use lib.IntN.{ℤ, pos, _-ℤ_}
+use lib.IntN.{pos, _-ℤ_}
 use mir.Syntax.{w16, w32}
 use Rattle.basicop.specs.Ops.{asr, clamp, add, sub, mult, L-add, L-sub, L-mult, L-shl, round}
 use Rattle.basicop.proofs.Ints.{arithℤ, sub-ℤ-is}

@@ -1,13 +1,13 @@
 -- L_Extract: no step of it clamps or wraps, and the halves make up x but for its lowest bit. Assumes nothing.
-use mathlib.Core.Path.{_≡_, refl, sym, ap, _∙_}
-use Prim.Native.Nat.{ℕ, _+_, _*_, _^_, _<_, _≤_}
+use mathlib.Core.Path.{_≡_, sym, ap, _∙_}
+use Prim.Native.Nat.{_<_}
 use native.Mathlib.Omega.{arith}
 use lib.Dec.{lit<}
-use lib.IntN.{ℤ, pos, negsuc, _+ℤ_, _-ℤ_, _*ℤ_}
+use lib.IntN.{ℤ, pos, _-ℤ_, _*ℤ_}
 use lib.Signed.{shrZ}
 use mir.Syntax.{w16, w32}
 use mir.Val.{SFits}
-use Rattle.basicop.specs.Ops.{clamp, asr, modZ, L-sub, L-mult, L-Extract}
+use Rattle.basicop.specs.Ops.{asr, modZ, L-sub, L-mult, L-Extract}
 use Rattle.basicop.proofs.Ints.{arithℤ, sfits-by, mul-is, sub-ℤ-is}
 use Rattle.basicop.proofs.Shift.{asr-asr, asr-fits, shr-is, modZ-lt}
 use Rattle.basicop.proofs.Clamp.{clamp-id}

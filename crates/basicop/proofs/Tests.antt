@@ -2,7 +2,6 @@
 use mathlib.Core.Path.{_≡_, refl, subst}
 use mathlib.Core.Bool.{Bool, true, false, _||_}
 use borrow.Author.Tests.{leb-false, lt-ltb, le-ltb}
-use Prim.Native.Nat.{ℕ, _<_}
 use lib.Dec.{T, lt→ltb, ltb→lt, leb→le}
 use lib.IntN.{ℤ, pos, negsuc}
 use lib.Signed.{_≤ℤ_, _<ℤ_, leZ, ltZ, ltZ-no}

@@ -1,19 +1,18 @@
 -- The low bits read as signed, proved over the modulus, for any width: what `wrap` gives is in range, is z up to a multiple of 2 ^ w, and is the only such number.
 -- Assumes nothing.
 use mathlib.Core.Path.{_≡_, refl, sym, ap, _∙_}
-use mathlib.Core.Bool.{Bool, true, false, cond}
-use Prim.Native.Nat.{ℕ, zero, suc, _+_, _*_, _-_, _%_, _^_, _<_, _≤_}
+use mathlib.Core.Bool.{Bool, true, false}
+use Prim.Native.Nat.{ℕ, suc, _*_, _-_, _%_, _^_, _<_, _≤_}
 use native.Mathlib.Nat.{mod-eq-of-lt}
 use native.Mathlib.Omega.{arith}
 use borrow.Author.Tests.{lt-ltb, le-ltb, ltb-true, ltb-false}
 use lib.Dec.{ltb}
 use lib.Pow.{pow-pos}
-use lib.IntN.{ℤ, pos, negsuc, _+ℤ_, _-ℤ_, _*ℤ_}
-use lib.Signed.{mag}
+use lib.IntN.{ℤ, pos, negsuc, _-ℤ_}
 use mir.Syntax.{Width, w8, w16, w32, w64, w128}
 use mir.Val.{SFits, bits, hbits}
 use Rattle.basicop.specs.Ops.{wrap, modZ}
-use Rattle.basicop.proofs.Ints.{up, dn, arithℤ, sfits-by, sub-ℤ-is}
+use Rattle.basicop.proofs.Ints.{arithℤ, sub-ℤ-is}
 use Rattle.basicop.proofs.Shift.{modZ-lt}
 
 -- a width's range is half of its modulus

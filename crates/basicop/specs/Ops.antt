@@ -1,6 +1,6 @@
 -- The basic operators of 3GPP TS 26.073 (basic_op, oper_32b), over the integers, under the standard's names with `-` for `_`.
 -- A number of 16 or 32 bits is an integer here: `pos n` is n and `negsuc n` is -(n + 1). `clamp` is the standard's saturation.
-use mathlib.Core.Bool.{Bool, true, false, cond}
+use mathlib.Core.Bool.{cond}
 use mathlib.Core.List.{List, map}
 use Prim.Native.Nat.{ℕ, zero, suc, _-_, _*_, _%_, _^_}
 use lib.Dec.{ltb}

@@ -2,7 +2,7 @@
 ghost use mathlib.Core.Path.{_≡_};
 ghost use Prim.Native.Nat.{min, _-_, _<_, _^_};
 ghost use lib.Count.{leadingZeros};
-ghost use lib.IntN.{pos, negsuc, negℤ, _*ℤ_};
+ghost use lib.IntN.{pos, negℤ, _*ℤ_};
 ghost use lib.Signed.{_≤ℤ_, _<ℤ_};
 ghost use mir.Syntax.{w16, w32};
 ghost use Rattle.basicop.specs.Ops.{clamp, asr, modZ, add, sub, mult, shl, shr, quartered, L-add, L-sub, L-mult, L-mac, L-msu, L-shl, L-shr, L-shr-r, extract-h, extract-l, round, L-deposit-h, norm-l, div-s, L-Extract, Mpy-32-16};

@@ -7,7 +7,7 @@ use lib.IntN.{ℤ, pos}
 use lib.ListN.{replicate}
 use Rattle.state.specs.declared.State.{State}
 use Rattle.state.specs.Outcome.{numberOf, placeOf, isAccepted}
-use Rattle.record.specs.Bytes.{words}
+use Rattle.coding.specs.Bytes.{words}
 use Rattle.mr74.specs.declared.FrameAnswer.{FrameAnswer}
 use Rattle.mr74.specs.Frame.{Called, called, frameCall}
 use Rattle.lines.specs.Lines.{peakOf, frameLine, refusedLine}

@@ -37,7 +37,7 @@ fn sheet_line(out: &mut [u8], number: u64, bytes: &[u8], state: State) -> Step
     ensures next { λ r. ⌜ r .next ≡ sheetCall (now (bytes .entry)) state .answer .next ⌝ }
 {
     let mut sheet = [0i16; 182];
-    record::fill(&mut sheet, bytes);
+    coding::fill(&mut sheet, bytes);
     let mut samples = [0i16; 160];
     let answer = mr74::frame(&sheet, state, &mut samples);
     let count = answer_line(out, number, answer, samples);

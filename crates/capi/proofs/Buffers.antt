@@ -1,12 +1,12 @@
 -- What is lent, part by part. Assumes nothing.
-use mathlib.Core.Path.{_≡_, refl, sym, ap, ap₂, _∙_}
+use mathlib.Core.Path.{_≡_, refl, sym, ap, _∙_}
 use mathlib.Core.Bool.{Bool, true, false, cond}
-use mathlib.Core.List.{List, [], _∷_, _++_, map, append-assoc, append-nil}
-use Prim.Native.Nat.{ℕ, _+_, _-_, _≤_}
+use mathlib.Core.List.{List, [], _∷_, _++_, append-assoc, append-nil}
+use Prim.Native.Nat.{ℕ, _≤_}
 use native.Mathlib.Omega.{arith}
 use lib.Dec.{eqb}
 use lib.IntN.{ℤ, pos}
-use lib.ListN.{length, take, drop, set, getD, replicate, length-append, length-replicate}
+use lib.ListN.{length, take, set, getD, replicate, length-append, length-replicate}
 use lib.Seq.{take-all}
 use mir.Val.{boolByte}
 use borrow.Rule.Slice.PartMut.{putMid}
@@ -14,8 +14,8 @@ use borrow.Author.Tests.{eq-eqb, ne-eqb, eqb-true}
 use Rattle.lpc.specs.declared.Rows.{Rows}
 use Rattle.state.specs.declared.State.{State}
 use Rattle.state.specs.Outcome.{isAccepted}
-use Rattle.record.specs.Bytes.{words, bytesOf}
-use Rattle.record.proofs.Writer.{bytes-length, bytes-append, laid-none, laid-more, laid-done}
+use Rattle.coding.specs.Bytes.{words, bytesOf}
+use Rattle.coding.proofs.Laid.{bytes-length, bytes-append, laid-none, laid-more, laid-done}
 use Rattle.mr74.specs.declared.FrameAnswer.{FrameAnswer}
 use Rattle.mr74.specs.Frame.{called, frameCall}
 use Rattle.mr74.proofs.Passed.{passed}

@@ -1,9 +1,7 @@
 -- The three calls, case by case. Assumes nothing.
-use mathlib.Core.Path.{_≡_, refl, sym, ap, _∙_}
-use mathlib.Core.Bool.{Bool, true, false, cond}
+use mathlib.Core.Path.{_≡_}
 use mathlib.Core.List.{List}
 use Prim.Native.Nat.{ℕ}
-use lib.IntN.{ℤ}
 use lib.ListN.{length}
 use borrow.Author.Tests.{eq-eqb, ne-eqb}
 use Rattle.state.specs.declared.State.{State}
@@ -11,7 +9,7 @@ use Rattle.state.specs.declared.Outcome.{Outcome}
 use Rattle.record.specs.declared.Answer.{Answer}
 use Rattle.record.specs.Record.{readCall, written, writeCall}
 use Rattle.mr74.specs.declared.FrameAnswer.{FrameAnswer}
-use Rattle.mr74.specs.Frame.{Called, frameCall}
+use Rattle.mr74.specs.Frame.{frameCall}
 use Rattle.capi.specs.Capi.{unfit, codeOf, stateIn, stateBytes, sheetIn, roomIn, outAfter, rowBytes, flagBytes, frameLeft, frameBytes, readLeft, readBytes, writeLeft, writeBytes}
 
 module _ (sheet state out rows flags : List ℕ) where

@@ -1,4 +1,5 @@
--- Codes: what number and place lie in. Buffers: what is lent, part by part. Calls: the three calls, case by case.
+-- Codes: what number and place lie in. Buffers: what is lent, part by part. Calls: the three calls, case by case. Kept: a call that is not accepted.
 pub mod Codes
 pub mod Buffers
 pub mod Calls
+pub mod Kept

@@ -1,4 +1,5 @@
 -- The frame call, the reader and the writer over bytes. Numbers of 16 bits are two bytes, low byte first. A state is the 394 bytes of a record's body.
+use mathlib.Core.Path.{_≡_}
 use mathlib.Core.Bool.{Bool, cond, _&&_}
 use mathlib.Core.List.{List, [], map, _++_}
 use Prim.Native.Nat.{ℕ, _+_, _*_}
@@ -10,8 +11,8 @@ use Rattle.state.specs.declared.State.{State}
 use Rattle.state.specs.declared.Outcome.{Outcome}
 use Rattle.state.specs.Outcome.{numberOf, placeOf, isAccepted}
 use Rattle.state.specs.State.{stateOf, numbersOf}
-use Rattle.record.specs.Bytes.{words, bytesOf}
-use Rattle.record.specs.Record.{Told, readCall, Written, writeCall}
+use Rattle.coding.specs.Bytes.{words, bytesOf, Bytes}
+use Rattle.record.specs.Record.{readCall, writeCall}
 use Rattle.mr74.specs.Frame.{Called, frameCall}
 
 -- returned where a lent state, rows or flags has another length than its own: no number of the paper's. Nothing lent is changed then
@@ -99,3 +100,10 @@ unfoldable pub writeBytes : List ℕ → List ℕ → WriteLeft
 writeBytes state lent =
     let w = writeCall (stateIn state) lent in
     cond (eqb (length state) 394) (writeLeft (codeOf (w .outcome)) (w .lent)) (writeLeft unfit lent)
+
+-- ---- what a caller may rely on; the theorem is `kept` in proofs/Kept.antt
+-- a frame call that returns another number than 0 leaves the lent state and output as they were
+abbrev pub Kept : Type 0
+Kept =
+    (sheet state out rows flags : List ℕ) → Bytes state → let left = frameBytes sheet state out rows flags in
+    (left .code ≡ 0 → ⊥) → (left .state ≡ state) × (left .out ≡ out)

@@ -38,7 +38,7 @@ fn sheet_in(sheet: &[u8], numbers: &mut [i16]) -> usize
     if sheet.len() != 364 {
         return 0;
     }
-    record::fill(numbers, sheet);
+    coding::fill(numbers, sheet);
     182
 }
 
@@ -68,7 +68,7 @@ fn frame_out(sheet: &[u8], state: State, out: &mut [u8]) -> FrameAnswer
     let answer = frame_in(sheet, state, &mut samples[0..n]);
     let outcome = answer.outcome;
     if outcome.accepted() {
-        record::put(out, &samples);
+        coding::put(out, &samples);
         return answer;
     }
     answer
@@ -80,13 +80,13 @@ fn write_rows(rows: Rows, out: &mut [u8])
     ensures { λ _. ⌜ now (out .exit) ≡ rowBytes rows ⌝ }
 {
     let a = rows.a;
-    record::put(&mut out[0..22], &a);
+    coding::put(&mut out[0..22], &a);
     let b = rows.b;
-    record::put(&mut out[22..44], &b);
+    coding::put(&mut out[22..44], &b);
     let c = rows.c;
-    record::put(&mut out[44..66], &c);
+    coding::put(&mut out[44..66], &c);
     let d = rows.d;
-    record::put(&mut out[66..88], &d);
+    coding::put(&mut out[66..88], &d);
 }
 
 // A byte for each flag.
@@ -110,7 +110,7 @@ fn give(answer: FrameAnswer, state: &mut [u8], rows: &mut [u8], flags: &mut [u8]
     ensures { λ _. ⌜ now (flags .exit) ≡ flagBytes (answer .flags) ⌝ }
 {
     let next = answer.next;
-    record::write_body(next, state);
+    coding::write_body(next, state);
     let four = answer.rows;
     write_rows(four, rows);
     let retried = answer.flags;
@@ -138,7 +138,7 @@ pub extern "C" fn mr74_frame(
     if flags.len() != FLAGS_BYTES {
         return UNFIT;
     }
-    let before = record::state_in(state);
+    let before = coding::state_in(state);
     let answer = frame_out(sheet, before, out);
     give(answer, state, rows, flags)
 }
@@ -153,7 +153,7 @@ pub extern "C" fn mr74_read(bytes: &[u8], state: &mut [u8], note: &mut usize) ->
     }
     let answer = record::answer_of(bytes);
     let found = answer.state;
-    record::write_body(found, state);
+    coding::write_body(found, state);
     let part = record::note(bytes);
     *note = part.len();
     let outcome = answer.outcome;
@@ -168,7 +168,7 @@ pub extern "C" fn mr74_write(state: &[u8], bytes: &mut [u8]) -> u32
     if state.len() != STATE_BYTES {
         return UNFIT;
     }
-    let written = record::state_in(state);
+    let written = coding::state_in(state);
     let outcome = record::write(written, bytes);
     code(outcome)
 }

@@ -11,10 +11,9 @@ use mir.Val.{SFits}
 use Rattle.lists.specs.Lists.{at}
 use Rattle.lists.proofs.Entries.{each-append, each-drop}
 use Rattle.basicop.specs.Ops.{quartered}
-use Rattle.synthesis.specs.Synthesis.{samples, overflowed}
-use Rattle.synthesis.specs.Whole.{wholeSamples, retried, retriedAt}
+use Rattle.synthesis.specs.Synthesis.{samples}
+use Rattle.synthesis.specs.Whole.{retried, retriedAt}
 use Rattle.synthesis.proofs.Agree.{agree}
-use Rattle.excitation.specs.Excitation.{taking}
 use Rattle.excitation.proofs.Ranges.{quarter-range}
 use Rattle.decoder.specs.Subframe.{Fed, Subframe, kept, again, synthesised}
 use Rattle.decoder.specs.Retry.{Retry}

@@ -1,10 +1,9 @@
 -- The synthesis of a subframe, by the place that its first pass gives. Assumes nothing.
 use Prim.Native.Nat.{ℕ, _≤_, _<_}
-use mathlib.Core.Path.{_≡_, refl, sym, ap, _∙_}
+use mathlib.Core.Path.{_≡_, _∙_}
 use mathlib.Core.Bool.{true, false}
 use mathlib.Core.List.{List}
 use borrow.Author.Tests.{lt-ltb, le-ltb}
-use lib.Dec.{ltb}
 use lib.IntN.{ℤ}
 use lib.ListN.{length}
 use Rattle.basicop.specs.Ops.{quartered}
@@ -12,7 +11,7 @@ use Rattle.synthesis.specs.Synthesis.{samples, overflowed, overflowedAt, previe
 use Rattle.synthesis.proofs.Samples.{overflowed-by-at, previewed-all}
 use Rattle.excitation.specs.Excitation.{taking}
 use Rattle.decoder.specs.declared.Synthesised.{Synthesised}
-use Rattle.decoder.specs.Subframe.{Fed, Subframe, kept, again, synthesised, told}
+use Rattle.decoder.specs.Subframe.{Fed, synthesised, told}
 
 module _ (a fb x h p : List ℤ) (l : length x ≡ 40) where
   abbrev fed : Fed

@@ -1,5 +1,5 @@
 -- A subframe step, put together from what its parts give. Assumes nothing.
-use mathlib.Core.Path.{_≡_, refl}
+use mathlib.Core.Path.{_≡_}
 use mathlib.Core.List.{List, [], _∷_, _++_}
 use lib.IntN.{ℤ}
 use Rattle.pitch.specs.Lag.{lagOf}

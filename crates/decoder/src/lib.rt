@@ -1,12 +1,10 @@
 // The core of a frame: everything up to the synthesis samples.
 ghost use mathlib.Core.Path.{_≡_};
-ghost use mathlib.Core.Bool.{cond};
 ghost use mathlib.Core.List.{_++_};
 ghost use Prim.Native.Nat.{_+_, _*_, _<_, _≤_};
 ghost use lib.ListN.{take};
-ghost use lib.IntN.{pos};
 ghost use Rattle.decoder.specs.Enhance.{enhancedAt, enhanced, firstExcitation};
-ghost use Rattle.decoder.specs.Subframe.{Fed, synthesised, told};
+ghost use Rattle.decoder.specs.Subframe.{synthesised, told};
 ghost use Rattle.decoder.specs.Core.{excited, turn, toldTurn, Lags, ran, toldRun, decoded, toldFrame};
 ghost use Rattle.spectral.specs.Lsp.{Frequencies};
 use basicop::Q1;

@@ -1,17 +1,17 @@
 -- How many numbers sharpening, feedback and past have, and what they lie in. Assumes nothing.
-use Prim.Native.Nat.{ℕ, zero, suc, _+_, _-_, _≤_, _<_}
-use mathlib.Core.Path.{_≡_, refl, sym, ap, _∙_, subst}
+use Prim.Native.Nat.{ℕ, _+_, _<_}
+use mathlib.Core.Path.{_≡_, refl, _∙_, subst}
 use mathlib.Core.Bool.{Bool, true, false, cond}
-use mathlib.Core.List.{List, [], _++_, map}
+use mathlib.Core.List.{List, []}
 use native.Mathlib.Omega.{arith}
-use lib.Dec.{T, ltb, lit<}
+use lib.Dec.{ltb}
 use lib.IntN.{ℤ, pos, negsuc}
 use lib.ListN.{length, drop, length-append, length-drop, length-map}
 use lib.Signed.{_≤ℤ_, ltZ}
 use mir.Syntax.{w16}
 use mir.Val.{SFits}
-use Rattle.lists.specs.Lists.{at, iter, grow, pairwise}
-use Rattle.lists.proofs.Entries.{length-pairwise, at-pairwise, at-map}
+use Rattle.lists.specs.Lists.{at}
+use Rattle.lists.proofs.Entries.{length-pairwise, at-pairwise}
 use Rattle.lists.proofs.Grow.{length-grow, grow-each}
 use Rattle.basicop.specs.Ops.{asr, add, sub, shr, quartered}
 use Rattle.basicop.proofs.Ints.{arithℤ}

@@ -1,6 +1,6 @@
 -- The loop that sharpens an innovation in place, from the lag t on. Assumes nothing.
 use Prim.Native.Nat.{ℕ, zero, suc, min, _+_, _-_, _≤_, _<_}
-use mathlib.Core.Path.{_≡_, refl, sym, ap, _∙_}
+use mathlib.Core.Path.{_≡_, refl, _∙_}
 use mathlib.Core.List.{List, []}
 use native.Mathlib.Nat.{le-refl}
 use native.Mathlib.Omega.{arith}

@@ -1,7 +1,6 @@
 // The excitation of a subframe: sharpening, feedback and the past.
 ghost use mathlib.Core.Path.{_≡_};
 ghost use Prim.Native.Nat.{_<_, _≤_};
-ghost use lib.IntN.{pos};
 ghost use mathlib.Core.List.{_++_};
 ghost use lib.ListN.{take, drop};
 ghost use Rattle.basicop.specs.Ops.{add, mult, quartered};

@@ -6,8 +6,8 @@ use mathlib.Core.Logic.{⊎-elim}
 use native.Mathlib.Numerals.{add-one}
 use native.Mathlib.Nat.{add-comm, not-suc-le-zero, le-of-suc-le-suc, eq-or-lt-of-le}
 use native.Mathlib.Omega.{arith}
-use lib.ListN.{length, take, drop, length-append, List·getD-append}
-use lib.Seq.{getD-at, getD-drop, getD-append-add}
+use lib.ListN.{length, take, drop, length-append, length-drop, List·getD-append}
+use lib.Seq.{getD-at, getD-drop, getD-take, getD-append-add, length-take-le}
 use lib.IntN.{ℤ, pos}
 use Rattle.lists.specs.Lists.{at, tab, pairwise, Every}
 
@@ -105,3 +105,10 @@ pub each-drop : (P : ℤ → Type 0) → P (pos 0) → (n : ℕ) (zs : List ℤ)
 each-drop P o zero zs f i = f i
 each-drop P o (suc n) [] f i = o
 each-drop P o (suc n) (z ∷ zs) f i = each-drop P o n zs (λ j. f (suc j)) i
+
+-- ---- n numbers from number k on
+pub stretch-length : (xs : List ℤ) (k n : ℕ) → k + n ≤ length xs → length (take n (drop k xs)) ≡ n
+stretch-length xs k n h = length-take-le n (drop k xs) (rw (length-drop k xs) (omega arith))
+
+pub stretch-at : (xs : List ℤ) (k n i : ℕ) → i < n → at xs (k + i) ≡ at (take n (drop k xs)) i
+stretch-at xs k n i h = sym (getD-take n (drop k xs) i (pos 0) h ∙ getD-drop k xs i (pos 0))

@@ -1,6 +1,6 @@
 -- A loop that fills an array from the front: after i turns it agrees with the wanted list in the first i places.
 -- Assumes nothing.
-use Prim.Native.Nat.{ℕ, suc, _+_, _-_, _≤_, _<_}
+use Prim.Native.Nat.{ℕ, _+_, _-_, _≤_, _<_}
 use mathlib.Core.Path.{_≡_, refl, sym, _∙_}
 use mathlib.Core.List.{List, _++_}
 use native.Mathlib.Numerals.{add-one}

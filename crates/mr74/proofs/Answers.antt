@@ -1,6 +1,6 @@
 -- The answers of the frame call, put together from what its parts give. Assumes nothing.
 use Prim.Native.Nat.{ℕ}
-use mathlib.Core.Path.{_≡_, refl, sym, ap, _∙_}
+use mathlib.Core.Path.{_≡_}
 use mathlib.Core.Bool.{Bool, true, false}
 use mathlib.Core.List.{List, map}
 use lib.Dec.{ltb}
@@ -21,7 +21,7 @@ use Rattle.mr74.specs.declared.Decoded.{Decoded}
 use Rattle.mr74.specs.declared.FrameAnswer.{FrameAnswer}
 use Rattle.mr74.specs.Sheet.{lsfsOf, subframesOf}
 use Rattle.mr74.specs.Verdict.{verdict}
-use Rattle.mr74.specs.Frame.{Called, called, coreOf, turnsOf, flagsOf, frameTrace, frameCall}
+use Rattle.mr74.specs.Frame.{called, coreOf, turnsOf, flagsOf, frameTrace, frameCall}
 use Rattle.mr74.specs.Inner.{decodedOf, refusal}
 use Rattle.mr74.proofs.Machine.{ran-flags}
 

@@ -1,19 +1,20 @@
 -- What an accepted call has shown. Assumes nothing.
 use Prim.Native.Nat.{ℕ, zero, suc, _+_, _≤_, _<_}
-use mathlib.Core.Path.{_≡_, refl, sym, _∙_}
+use mathlib.Core.Path.{_≡_, refl, _∙_}
 use mathlib.Core.Bool.{Bool, true, false, not, cond, _||_}
 use mathlib.Core.List.{List, [], _∷_}
 use native.Mathlib.Omega.{arith}
 use lib.Dec.{eqb, ltb}
 use lib.IntN.{ℤ, pos}
-use lib.ListN.{length, take, drop, length-take, length-drop}
+use lib.ListN.{length, length-take}
 use lib.Seq.{getD-take, getD-drop}
 use lib.Signed.{_≤ℤ_, ltZ}
-use borrow.Author.Tests.{eqb-true, ltb-false}
+use borrow.Author.Tests.{eqb-true, ltb-false, not-true, not-false}
 use Rattle.lists.specs.Lists.{at, firstNot}
+use Rattle.lists.proofs.Entries.{stretch-length}
 use Rattle.lists.proofs.Search.{none-fails}
 use Rattle.basicop.proofs.Tests.{less-no, or-left, or-right}
-use Rattle.spectral.specs.Lsp.{firstOutside, Frequencies}
+use Rattle.spectral.specs.Lsp.{firstOutside}
 use Rattle.state.specs.declared.State.{State}
 use Rattle.state.specs.declared.Outcome.the-variants.{SheetLength, Lsf, PitchIndex, Gain, OutputLength}
 use Rattle.state.specs.Outcome.{isAccepted}
@@ -21,14 +22,6 @@ use Rattle.state.proofs.Verdict.{passes, Kept, kept}
 use Rattle.mr74.specs.Sheet.{lsfsOf, indicesOf, gainsOf}
 use Rattle.mr74.specs.Inner.{Ready}
 use Rattle.mr74.specs.Verdict.{within, firstIndexOutside, firstPitch, firstNegative, verdict}
-
-not-true : (b : Bool) → not b ≡ false → b ≡ true
-not-true true e = refl
-not-true false e = sym e
-
-not-false : (b : Bool) → not b ≡ true → b ≡ false
-not-false true e = sym e
-not-false false e = refl
 
 -- ---- a count that is not below the list's length has passed every number
 firstNot-most : (p : ℤ → Bool) (xs : List ℤ) → firstNot p xs ≤ length xs
@@ -61,7 +54,7 @@ all-within this next (x ∷ xs) (suc k) h = all-within next this xs k (one-more 
 -- ---- an index in its range
 index-in : (limit index : ℤ) → within limit index ≡ true → (pos 0 ≤ℤ index) × (index ≤ℤ limit)
 index-in limit index e =
-    let n = not-false (ltZ index (pos 0) || ltZ limit index) e in
+    let n = not-true (ltZ index (pos 0) || ltZ limit index) e in
     (less-no (or-left (ltZ index (pos 0)) (ltZ limit index) n), less-no (or-right (ltZ index (pos 0)) (ltZ limit index) n))
 
 pub record Passed (sheet : List ℤ) (s : State) (room : ℕ) : Type 0 where
@@ -69,9 +62,6 @@ pub record Passed (sheet : List ℤ) (s : State) (room : ℕ) : Type 0 where
   pub lent : room ≡ 160
   pub gains : (k : ℕ) → k < 8 → pos 0 ≤ℤ at sheet (14 + k)
   pub state : Kept (s .core .sharpening .0) (s .post .gain .«previous_gain»)
-
-part-length : (sheet : List ℤ) (k n : ℕ) → length sheet ≡ 182 → k + n ≤ 182 → length (take n (drop k sheet)) ≡ n
-part-length sheet k n e h = length-take n (drop k sheet) ∙ rw (length-drop k sheet, e) (omega arith)
 
 pub passed : (sheet : List ℤ) (s : State) (room : ℕ) → isAccepted (verdict sheet s room) ≡ true → Passed sheet s room
 unfolding verdict
@@ -81,9 +71,9 @@ passed sheet s room h =
     let r₂ = passes (ltb (firstOutside (lsfsOf sheet)) 10) (Lsf _) _ refl (r₅ .1) in
     let r₃ = passes (ltb (firstPitch (indicesOf sheet)) 4) (PitchIndex _) _ refl (r₂ .1) in
     let r₄ = passes (ltb (firstNegative (gainsOf sheet)) 8) (Gain _) _ refl (r₃ .1) in
-    let e : length sheet ≡ 182 = eqb-true (length sheet) 182 (not-true _ (r₁ .0)) in
+    let e : length sheet ≡ 182 = eqb-true (length sheet) 182 (not-false _ (r₁ .0)) in
     let i : 4 ≤ firstPitch (indicesOf sheet) = ltb-false (firstPitch (indicesOf sheet)) 4 (r₃ .0) in
-    let g = all-of (λ (gain : ℤ). not (ltZ gain (pos 0))) (gainsOf sheet) 8 (part-length sheet 14 8 e (omega arith)) (r₄ .0) in
+    let g = all-of (λ (gain : ℤ). not (ltZ gain (pos 0))) (gainsOf sheet) 8 (stretch-length sheet 14 8 (omega (arith, e))) (r₄ .0) in
     record {
       ready = record {
         count = e;
@@ -93,7 +83,7 @@ passed sheet s room h =
         index-c = index-at i 2 (omega arith);
         index-d = index-at i 3 (omega arith);
       };
-      lent = eqb-true room 160 (not-true _ (r₅ .0));
+      lent = eqb-true room 160 (not-false _ (r₅ .0));
       gains = λ k l. gain-at e g k l;
       state = kept (s .core .sharpening .0) (s .post .gain .«previous_gain») (r₄ .1);
     }
@@ -102,4 +92,4 @@ passed sheet s room h =
     index-at i k l = index-in (limitAt (pos 255) (pos 31) k) (at sheet (10 + k)) (rw (getD-take, getD-drop) at (all-within (pos 255) (pos 31) (indicesOf sheet) k (omega arith)))
 
     gain-at : length sheet ≡ 182 → firstNot (λ (gain : ℤ). not (ltZ gain (pos 0))) (gainsOf sheet) ≡ length (gainsOf sheet) → (k : ℕ) → k < 8 → pos 0 ≤ℤ at sheet (14 + k)
-    gain-at e g k l = less-no (not-false _ (rw (getD-take, getD-drop) at (none-fails (λ (gain : ℤ). not (ltZ gain (pos 0))) (gainsOf sheet) g k (omega (arith, part-length sheet 14 8 e (omega arith))))))
+    gain-at e g k l = less-no (not-true _ (rw (getD-take, getD-drop) at (none-fails (λ (gain : ℤ). not (ltZ gain (pos 0))) (gainsOf sheet) g k (omega (arith, stretch-length sheet 14 8 (omega (arith, e)))))))

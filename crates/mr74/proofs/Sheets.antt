@@ -1,13 +1,13 @@
 -- Stretches of a sheet, its lags, and its indices tested one by one. Assumes nothing.
-use Prim.Native.Nat.{ℕ, _+_, _*_, _≤_, _<_}
-use mathlib.Core.Path.{_≡_, refl, sym, ap, _∙_}
-use mathlib.Core.Bool.{Bool, true, false, not, _||_}
+use Prim.Native.Nat.{ℕ, _+_, _*_, _≤_}
+use mathlib.Core.Path.{_≡_, refl, ap, _∙_}
+use mathlib.Core.Bool.{Bool, true, false, not}
 use mathlib.Core.List.{List, [], _∷_, map}
 use native.Mathlib.Omega.{arith}
 use lib.Dec.{T, ltb, leb→le}
 use lib.IntN.{ℤ, pos, negsuc, natAbs}
-use lib.ListN.{length, take, drop, getD, length-drop}
-use lib.Seq.{drop-cons, take-suc, getD-take, getD-drop, length-take-le}
+use lib.ListN.{length, getD}
+use lib.Seq.{drop-cons}
 use lib.Signed.{_≤ℤ_, leZ, ltZ, nonNeg}
 use mir.Syntax.{w8}
 use mir.Val.{Fits}
@@ -23,13 +23,6 @@ use Rattle.decoder.specs.declared.Subframes.{Subframes}
 use Rattle.mr74.specs.Sheet.{indicesOf, lagsOf, innovationOf, parametersOf, subframesOf}
 use Rattle.mr74.specs.Inner.{Ready, fourLags}
 use Rattle.mr74.specs.Verdict.{within, firstIndexOutside, firstPitch}
-
--- ---- n numbers from number k on
-pub stretch-length : (xs : List ℤ) (k n : ℕ) → k + n ≤ length xs → length (take n (drop k xs)) ≡ n
-stretch-length xs k n h = length-take-le n (drop k xs) (rw (length-drop k xs) (omega arith))
-
-pub stretch-at : (xs : List ℤ) (k n i : ℕ) → i < n → at xs (k + i) ≡ at (take n (drop k xs)) i
-stretch-at xs k n i h = sym (getD-take n (drop k xs) i (pos 0) h ∙ getD-drop k xs i (pos 0))
 
 -- ---- a pitch index as a byte
 pub byte-fits : (z : ℤ) → pos 0 ≤ℤ z → z ≤ℤ pos 255 → (T (nonNeg z) × Fits w8 (natAbs z)) × (pos (natAbs z) ≡ z)

@@ -7,7 +7,6 @@ use lib.IntN.{ℤ}
 use lib.ListN.{length}
 use Rattle.spectral.specs.Lsp.{firstOutside}
 use Rattle.state.specs.declared.State.{State}
-use Rattle.state.specs.declared.Outcome.{Outcome}
 use Rattle.state.specs.declared.Outcome.the-variants.{SheetLength, Lsf, PitchIndex, Gain, OutputLength}
 use Rattle.state.specs.Outcome.{firstMet}
 use Rattle.state.specs.State.{stateVerdict}

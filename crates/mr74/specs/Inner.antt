@@ -1,6 +1,6 @@
 -- What inner functions of the frame call ask and give. The contract of the call itself does not use it.
 use mathlib.Core.Path.{_≡_}
-use mathlib.Core.Bool.{Bool, false}
+use mathlib.Core.Bool.{false}
 use mathlib.Core.List.{List}
 use lib.IntN.{ℤ, pos}
 use lib.ListN.{length, replicate}

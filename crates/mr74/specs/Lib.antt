@@ -5,4 +5,3 @@ pub mod Inner
 pub mod Calls
 pub mod Measure
 pub mod Demand3
-pub mod Examples

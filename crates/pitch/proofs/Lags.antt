@@ -1,15 +1,14 @@
 -- What the definitions of Lag.antt come to: by one computed test over all 256 indices where an index is in it. Assumes nothing.
 use mathlib.Core.Path.{_≡_, refl, sym, ap, ap₂, _∙_}
 use mathlib.Core.Bool.{Bool, true, false, cond}
-use Prim.Native.Nat.{ℕ, zero, suc, min, max, _+_, _-_, _*_, _/_, _%_, _<_, _≤_}
+use Prim.Native.Nat.{ℕ, min, max, _+_, _-_, _/_, _%_, _<_, _≤_}
 use native.Mathlib.Omega.{arith}
 use borrow.Author.Tests.{lt-ltb, le-ltb, ltb-true, ltb-false}
-use lib.Dec.{T, ltb, leb, eqb, lit<, lit≤}
+use lib.Dec.{T, ltb, eqb, lit<, lit≤}
 use lib.IntN.{ℤ, pos, negsuc, _+ℤ_, _-ℤ_}
-use lib.Signed.{ltZ}
 use mir.Syntax.{w16}
 use Rattle.lists.specs.Lists.{eqZ}
-use Rattle.lists.proofs.Table.{both, both-left, both-right, all-below, below-each, eqZ→eq}
+use Rattle.lists.proofs.Table.{both, both-left, both-right, below-each, eqZ→eq}
 use Rattle.basicop.specs.Ops.{clamp, asr, add, sub, mult}
 use Rattle.basicop.proofs.Ints.{arithℤ, sfits-by, add-is, sub-ℤ-is}
 use Rattle.basicop.proofs.Clamp.{clamp-id}
@@ -17,7 +16,7 @@ use Rattle.basicop.proofs.Naturals.{add-pos, sub-pos}
 use Rattle.pitch.specs.declared.Fraction.{Fraction}
 use Rattle.pitch.specs.declared.Fraction.the-variants.{MinusThird, Zero, PlusThird}
 use Rattle.pitch.specs.declared.PitchLag.{PitchLag}
-use Rattle.pitch.specs.Lag.{Lag, triple, absolute, relative, raised-20, lowered-134, lag-min, thirdsOf, lagOf, fractionOf, pitchLag}
+use Rattle.pitch.specs.Lag.{Lag, absolute, relative, raised-20, lowered-134, lag-min, thirdsOf, lagOf, fractionOf, pitchLag}
 
 pub lag-eq : {l m : Lag} → l .samples ≡ m .samples → l .thirds ≡ m .thirds → l ≡ m
 lag-eq p q = ap₂ (λ (s t : ℤ). record { samples = s; thirds = t }) p q

@@ -1,6 +1,5 @@
 -- Lags: Dec_lag3 of TS 26.073, and the range that its caller Decoder_amr hands it, for MR74 (TS 26.090, 6.1).
 use mathlib.Core.Bool.{cond}
-use Prim.Native.Nat.{ℕ}
 use lib.IntN.{ℤ, pos, negsuc, natAbs}
 use lib.Signed.{ltZ}
 use Rattle.basicop.specs.Ops.{add, sub, mult}

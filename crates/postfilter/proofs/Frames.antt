@@ -4,10 +4,11 @@ use mathlib.Core.Path.{_≡_, refl, sym, _∙_}
 use mathlib.Core.List.{List, _++_}
 use native.Mathlib.Numerals.{add-one}
 use native.Mathlib.Omega.{arith}
-use lib.IntN.{ℤ, pos}
-use lib.ListN.{length, take, drop, length-drop}
-use lib.Seq.{length-take-le, getD-take, getD-drop, take-all}
+use lib.IntN.{ℤ}
+use lib.ListN.{length, take}
+use lib.Seq.{take-all}
 use Rattle.lists.specs.Lists.{at, iter}
+use Rattle.lists.proofs.Entries.{stretch-length, stretch-at}
 use Rattle.lpc.specs.declared.Rows.{Rows}
 use Rattle.postfilter.specs.declared.Postfilter.{Postfilter}
 use Rattle.postfilter.specs.declared.Subframe.{Subframe}
@@ -15,10 +16,10 @@ use Rattle.postfilter.specs.declared.Frame.{Frame}
 use Rattle.postfilter.specs.Postfilter.{Processed, filtered, rowAt, part, processNext, processFrom, processed}
 
 pub part-length : (ys : List ℤ) (k : ℕ) → length ys ≡ 160 → k < 4 → length (part ys k) ≡ 40
-part-length ys k l h = length-take-le 40 (drop (40 * k) ys) (rw (length-drop (40 * k) ys, l) (omega arith))
+part-length ys k l h = stretch-length ys (40 * k) 40 (omega (arith, l))
 
 pub part-at : (ys : List ℤ) (k i : ℕ) → i < 40 → at ys (40 * k + i) ≡ at (part ys k) i
-part-at ys k i h = sym (getD-take 40 (drop (40 * k) ys) i (pos 0) h ∙ getD-drop (40 * k) ys i (pos 0))
+part-at ys k i h = stretch-at ys (40 * k) 40 i h
 
 -- the fourth row, by the tests of the first three
 pub row-fourth : (rows : Rows) (k : ℕ) → (k ≡ 0 → ⊥) → (k ≡ 1 → ⊥) → (k ≡ 2 → ⊥) → rows .d ≡ rowAt rows k

@@ -12,13 +12,14 @@ use Rattle.state.specs.declared.Outcome.the-variants.{Accepted}
 use Rattle.state.specs.Outcome.{firstMet, isAccepted}
 use Rattle.state.specs.State.{WellFormed, stateRows, stateVerdict, numbersOf, stateOf}
 use Rattle.state.proofs.Numbers.{state-of-numbers, numbers-words}
-use Rattle.record.specs.Bytes.{words, bytesOf}
+use Rattle.coding.specs.Bytes.{words, bytesOf}
 use Rattle.record.specs.Record.{distanceOf, noteLength, numbersIn, trailerRows, recordVerdict, told, readCall, trailerBytes, encoded}
 use Rattle.record.specs.Handover.{ReadBack, SameVerdict, SameRest}
-use Rattle.record.proofs.Bytes.{words-back}
+use Rattle.coding.proofs.Bytes.{words-back}
 use Rattle.record.proofs.Trailers.{rowsOf, distance-is}
 use Rattle.record.proofs.Reader.{numbers-told, outcome-is}
-use Rattle.record.proofs.Writer.{bytes-length, trailer-length}
+use Rattle.coding.proofs.Laid.{bytes-length}
+use Rattle.record.proofs.Writer.{trailer-length}
 use Rattle.record.proofs.Rest.{rest-is}
 
 -- ---- a note, and the record of a well-formed state

@@ -1,7 +1,7 @@
 -- The reader's definition, case by case. Assumes nothing.
 use mathlib.Core.Path.{_≡_, refl, ap, ap₂, sym, _∙_}
 use mathlib.Core.Bool.{Bool, true, false, cond}
-use mathlib.Core.List.{List, [], _∷_, _++_}
+use mathlib.Core.List.{List, [], _++_}
 use Prim.Native.Nat.{ℕ, _-_, _≤_, _<_}
 use native.Mathlib.Omega.{arith}
 use lib.Dec.{ltb}
@@ -13,7 +13,7 @@ use Rattle.state.specs.declared.Outcome.{Outcome}
 use Rattle.state.specs.declared.Outcome.the-variants.{RecordShort, BodyShort}
 use Rattle.state.specs.Outcome.{Row, row, firstMet, isAccepted}
 use Rattle.state.specs.State.{stateRows, stateOf}
-use Rattle.record.specs.Bytes.{words}
+use Rattle.coding.specs.Bytes.{words}
 use Rattle.record.specs.declared.Answer.{Answer}
 use Rattle.record.specs.Record.{distanceOf, noteLength, noteOf, numbersIn, trailerRows, bodyRows, recordVerdict, zeroState, told, readCall}
 use Rattle.record.proofs.Rows.{stopped, passed, first-unmet, both-accept}

@@ -2,41 +2,19 @@
 use mathlib.Core.Path.{_≡_, refl, ap, ap₂, sym, _∙_}
 use mathlib.Core.Bool.{true}
 use mathlib.Core.List.{List, [], _∷_, _++_}
-use Prim.Native.Nat.{ℕ, zero, suc, _+_, _-_, _≤_, _<_}
+use Prim.Native.Nat.{ℕ, zero, suc, _+_, _-_, _≤_}
 use native.Mathlib.Omega.{arith}
-use lib.IntN.{ℤ, pos}
-use lib.ListN.{length, take, drop, take-append-drop, drop-of-length-le}
-use lib.Seq.{drop-cons, drop-drop, getD-drop, length-take-le}
-use Rattle.lists.specs.Lists.{at}
+use lib.ListN.{length, take, drop, take-append-drop}
+use lib.Seq.{drop-drop, getD-drop, length-take-le}
 use Rattle.state.specs.Outcome.{isAccepted}
-use Rattle.state.specs.State.{numbersOf, stateOf}
-use Rattle.record.specs.Bytes.{words, bytesOf}
+use Rattle.state.specs.State.{numbersOf}
+use Rattle.state.proofs.Numbers.{numbers-of-state}
+use Rattle.coding.specs.Bytes.{words, bytesOf, Bytes}
 use Rattle.record.specs.Record.{distanceOf, numbersIn, recordVerdict, readCall, encoded}
-use Rattle.record.specs.Handover.{Bytes}
-use Rattle.record.proofs.Bytes.{bytes-back}
-use Rattle.record.proofs.Writer.{bytes-length}
+use Rattle.coding.proofs.Bytes.{bytes-back}
+use Rattle.coding.proofs.Laid.{bytes-length}
 use Rattle.record.proofs.Trailers.{trailer-is}
 use Rattle.record.proofs.Reader.{lentBody, body-at, trailer-accepted, distance-accepted, whole, body-length, note-accepted, state-accepted}
-
--- ---- the numbers of the state of 197 numbers are those numbers
-module _ (xs : List ℤ) (l : length xs ≡ 197) where
-  next : (k n : ℕ) → take n (drop k xs) ++ drop (k + n) xs ≡ drop k xs
-  next k n = ap (λ (r : List ℤ). take n (drop k xs) ++ r) (sym (drop-drop n k xs)) ∙ take-append-drop n (drop k xs)
-
-  one : (k : ℕ) → k < 197 → at xs k ∷ drop (suc k) xs ≡ drop k xs
-  one k h = sym (drop-cons xs k (pos 0) (omega (arith, l)))
-
-  pub numbers-of-state : numbersOf (stateOf xs) ≡ xs
-  unfolding numbersOf stateOf
-  numbers-of-state =
-      let e₈ : drop 197 xs ≡ [] = drop-of-length-le xs {i = 197} (omega (arith, l)) in
-      let e₇ : at xs 195 ∷ at xs 196 ∷ [] ≡ drop 195 xs = ap (λ (r : List ℤ). at xs 195 ∷ at xs 196 ∷ r) (sym e₈) ∙ ap (λ (r : List ℤ). at xs 195 ∷ r) (one 196 (omega arith)) ∙ one 195 (omega arith) in
-      let e₆ = ap (λ (r : List ℤ). take 10 (drop 185 xs) ++ r) e₇ ∙ next 185 10 in
-      let e₅ = ap (λ (r : List ℤ). take 10 (drop 175 xs) ++ r) e₆ ∙ next 175 10 in
-      let e₄ = ap (λ (r : List ℤ). take 10 (drop 165 xs) ++ r) e₅ ∙ next 165 10 in
-      let e₃ = ap (λ (r : List ℤ). at xs 164 ∷ r) e₄ ∙ one 164 (omega arith) in
-      let e₂ = ap (λ (r : List ℤ). take 154 (drop 10 xs) ++ r) e₃ ∙ next 10 154 in
-      ap (λ (r : List ℤ). take 10 xs ++ r) e₂ ∙ next 0 10
 
 -- ---- bytes, and a part of them
 take-bytes : (n : ℕ) (b : List ℕ) → Bytes b → Bytes (take n b)

@@ -10,9 +10,8 @@ use lib.Seq.{take-all, getD-drop}
 use borrow.Author.Tests.{eq-eqb, ne-eqb, eqb-true}
 use Rattle.state.specs.declared.Outcome.the-variants.{Accepted, Tag, Version, Layout}
 use Rattle.state.specs.Outcome.{Row, row, firstMet, isAccepted}
-use Rattle.record.specs.Bytes.{unsigned, bytesOf}
+use Rattle.coding.specs.Bytes.{unsigned, bytesOf, Bytes}
 use Rattle.record.specs.Record.{current, versions, known, trailerOf, versionOf, distanceOf, byteAt, fieldAt, tagged, trailerRows, trailerBytes}
-use Rattle.record.specs.Handover.{Bytes}
 use Rattle.record.proofs.Rows.{true-false}
 
 -- ---- rows 12 to 14, of the five fields

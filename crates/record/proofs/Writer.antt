@@ -1,12 +1,11 @@
 -- A record is written part by part, and the writer's definition, case by case. Assumes nothing.
-use mathlib.Core.Path.{_≡_, refl, ap, ap₂, sym, _∙_}
+use mathlib.Core.Path.{_≡_, refl, ap, _∙_}
 use mathlib.Core.Bool.{true, false}
-use mathlib.Core.List.{List, [], _∷_, _++_, append-assoc}
-use Prim.Native.Nat.{ℕ, _+_, _-_, _*_, _≤_}
+use mathlib.Core.List.{List, [], _∷_, _++_}
+use Prim.Native.Nat.{ℕ}
 use native.Mathlib.Omega.{arith}
-use lib.IntN.{ℤ, pos}
-use lib.ListN.{length, take, drop, set, length-drop, length-append}
-use lib.Seq.{take-all, take-at}
+use lib.IntN.{pos}
+use lib.ListN.{length, set, length-append}
 use borrow.Rule.Slice.PartMut.{putMid}
 use borrow.Author.Tests.{eq-eqb, ne-eqb}
 use Rattle.state.specs.declared.State.{State}
@@ -14,85 +13,9 @@ use Rattle.state.specs.declared.Outcome.{Outcome}
 use Rattle.state.specs.declared.Outcome.the-variants.{OutputLength}
 use Rattle.state.specs.Outcome.{firstMet, isAccepted}
 use Rattle.state.specs.State.{stateVerdict, numbersOf}
-use Rattle.record.specs.Bytes.{bytesOf}
+use Rattle.coding.specs.Bytes.{bytesOf}
+use Rattle.coding.proofs.Laid.{bytes-length, Laid, laid-none, laid-more, laid-done}
 use Rattle.record.specs.Record.{trailerBytes, encoded, writeRows, written, writeCall}
-
--- ---- the bytes of numbers
-pub bytes-length : (xs : List ℤ) → length (bytesOf xs) ≡ 2 * length xs
-unfolding bytesOf
-bytes-length [] = refl
-bytes-length (x ∷ xs) = let h = bytes-length xs in omega (arith, h)
-
-pub bytes-append : (xs ys : List ℤ) → bytesOf (xs ++ ys) ≡ bytesOf xs ++ bytesOf ys
-unfolding bytesOf
-bytes-append [] ys = refl
-bytes-append (x ∷ xs) ys = rw (bytes-append xs ys)
-
--- ---- a list of n bytes, whose first are those that were put
-pub record Laid (n : ℕ) (done out : List ℕ) : Type 0 where
-  pub room : length out ≡ n
-  pub front : take (length done) out ≡ done
-
-pub laid-none : (n : ℕ) (out : List ℕ) → length out ≡ n → Laid n [] out
-laid-none n out h = record { room = h; front = refl }
-
--- m bytes put from place k on, after the k that stand
-pub laid-more : {n : ℕ} {done out : List ℕ} (k m : ℕ) (last ys : List ℕ) → Laid n done out → length done ≡ k → length ys ≡ m → k + m ≤ n → last ≡ ys → Laid n (done ++ ys) (putMid k m out last)
-laid-more {n} {done} {out} k m last ys l hd hy h is =
-    let rest : List ℕ = drop m (drop k out) in
-    let e : take k out ≡ done = rw hd at (l .front) in
-    let lr : length rest ≡ n - k - m = length-drop m (drop k out) ∙ rw (length-drop k out, l .room) in
-    let la = length-append done (ys ++ rest) in
-    let lb = length-append ys rest in
-    record {
-      room = rw (e, is) (omega (arith, la, lb, lr, hd, hy));
-      front = rw (e, is) (ap (take (length (done ++ ys))) (sym (append-assoc done ys rest)) ∙ take-at (done ++ ys) rest (length (done ++ ys)) refl);
-    }
-
-pub laid-done : {n : ℕ} {done out : List ℕ} → Laid n done out → length done ≡ n → out ≡ done
-laid-done {n} {done} {out} l h = sym (take-all (length done) out (omega (arith, h, l .room))) ∙ l .front
-
--- ---- the parts of a record
-module _ (out : List ℕ) (lsp past history : List ℤ) (x : ℤ) (y₁ y₂ y₃ y₄ : List ℕ) where
-  pub core-written : length out ≡ 350 → length lsp ≡ 10 → length past ≡ 154 → length history ≡ 10
-      → y₁ ≡ bytesOf lsp → y₂ ≡ bytesOf past → y₃ ≡ bytesOf (x ∷ []) → y₄ ≡ bytesOf history
-      → putMid 330 20 (putMid 328 2 (putMid 20 308 (putMid 0 20 out y₁) y₂) y₃) y₄ ≡ bytesOf (lsp ++ (past ++ (x ∷ history)))
-  core-written h h₁ h₂ h₄ e₁ e₂ e₃ e₄ =
-      let b₁ = bytesOf lsp in
-      let b₂ = bytesOf past in
-      let b₃ = bytesOf (x ∷ []) in
-      let b₄ = bytesOf history in
-      let l₁ : length b₁ ≡ 20 = omega (arith, bytes-length lsp, h₁) in
-      let l₂ : length b₂ ≡ 308 = omega (arith, bytes-length past, h₂) in
-      let l₃ : length b₃ ≡ 2 = bytes-length (x ∷ []) in
-      let l₄ : length b₄ ≡ 20 = omega (arith, bytes-length history, h₄) in
-      let k₂ : length (b₁ ++ b₂) ≡ 328 = omega (arith, length-append b₁ b₂, l₁, l₂) in
-      let k₃ : length ((b₁ ++ b₂) ++ b₃) ≡ 330 = omega (arith, length-append (b₁ ++ b₂) b₃, k₂, l₃) in
-      let k₄ : length (((b₁ ++ b₂) ++ b₃) ++ b₄) ≡ 350 = omega (arith, length-append ((b₁ ++ b₂) ++ b₃) b₄, k₃, l₄) in
-      let s₁ = laid-more 0 20 y₁ b₁ (laid-none 350 out h) refl l₁ (omega arith) e₁ in
-      let s₂ = laid-more 20 308 y₂ b₂ s₁ l₁ l₂ (omega arith) e₂ in
-      let s₃ = laid-more 328 2 y₃ b₃ s₂ k₂ l₃ (omega arith) e₃ in
-      let s₄ = laid-more 330 20 y₄ b₄ s₃ k₃ l₄ (omega arith) e₄ in
-      laid-done s₄ k₄ ∙ append-assoc (b₁ ++ b₂) b₃ b₄ ∙ append-assoc b₁ b₂ (b₃ ++ b₄)
-      ∙ sym (bytes-append lsp (past ++ (x ∷ history)) ∙ ap (λ (l : List ℕ). b₁ ++ l) (bytes-append past (x ∷ history) ∙ ap (λ (l : List ℕ). b₂ ++ l) (bytes-append (x ∷ []) history)))
-
-module _ (out : List ℕ) (input synthesis : List ℤ) (x y : ℤ) (y₁ y₂ y₃ : List ℕ) where
-  pub post-written : length out ≡ 44 → length input ≡ 10 → length synthesis ≡ 10 → y₁ ≡ bytesOf input → y₂ ≡ bytesOf synthesis → y₃ ≡ bytesOf (x ∷ y ∷ [])
-      → putMid 40 4 (putMid 20 20 (putMid 0 20 out y₁) y₂) y₃ ≡ bytesOf (input ++ (synthesis ++ (x ∷ y ∷ [])))
-  post-written h h₁ h₂ e₁ e₂ e₃ =
-      let b₁ = bytesOf input in
-      let b₂ = bytesOf synthesis in
-      let b₃ = bytesOf (x ∷ y ∷ []) in
-      let l₁ : length b₁ ≡ 20 = omega (arith, bytes-length input, h₁) in
-      let l₂ : length b₂ ≡ 20 = omega (arith, bytes-length synthesis, h₂) in
-      let l₃ : length b₃ ≡ 4 = bytes-length (x ∷ y ∷ []) in
-      let k₂ : length (b₁ ++ b₂) ≡ 40 = omega (arith, length-append b₁ b₂, l₁, l₂) in
-      let k₃ : length ((b₁ ++ b₂) ++ b₃) ≡ 44 = omega (arith, length-append (b₁ ++ b₂) b₃, k₂, l₃) in
-      let s₁ = laid-more 0 20 y₁ b₁ (laid-none 44 out h) refl l₁ (omega arith) e₁ in
-      let s₂ = laid-more 20 20 y₂ b₂ s₁ l₁ l₂ (omega arith) e₂ in
-      let s₃ = laid-more 40 4 y₃ b₃ s₂ k₂ l₃ (omega arith) e₃ in
-      laid-done s₃ k₃ ∙ append-assoc b₁ b₂ b₃
-      ∙ sym (bytes-append input (synthesis ++ (x ∷ y ∷ [])) ∙ ap (λ (l : List ℕ). b₁ ++ l) (bytes-append synthesis (x ∷ y ∷ [])))
 
 -- the first two bytes are set
 tag-set : (out : List ℕ) → length out ≡ 8 → Laid 8 (0x4D ∷ 0x37 ∷ []) (set (set out 0 0x4D) 1 0x37)
@@ -110,24 +33,6 @@ pub trailer-length : length trailerBytes ≡ 8
 trailer-length = omega (arith, bytes-length (pos 1 ∷ pos 394 ∷ pos 197 ∷ []))
 
 module _ (s : State) (out y₁ y₂ : List ℕ) where
-  abbrev c : List ℤ
-  c = s .core .lsp ++ (s .core .past ++ (s .core .sharpening .0 ∷ s .core .history))
-
-  abbrev p : List ℤ
-  p = s .post .«input_history» ++ (s .post .«synthesis_history» ++ (s .post .«previous_residual» ∷ s .post .gain .«previous_gain» ∷ []))
-
-  numbers-are : c ++ p ≡ numbersOf s
-  unfolding numbersOf
-  numbers-are =
-      append-assoc (s .core .lsp) (s .core .past ++ (s .core .sharpening .0 ∷ s .core .history)) p
-      ∙ ap (λ (l : List ℤ). s .core .lsp ++ l) (append-assoc (s .core .past) (s .core .sharpening .0 ∷ s .core .history) p)
-
-  pub body-written : length out ≡ 394 → length y₁ ≡ 350 → length y₂ ≡ 44 → y₁ ≡ bytesOf c → y₂ ≡ bytesOf p → putMid 350 44 (putMid 0 350 out y₁) y₂ ≡ bytesOf (numbersOf s)
-  body-written h l₁ l₂ e₁ e₂ =
-      let s₁ = laid-more 0 350 y₁ y₁ (laid-none 394 out h) refl l₁ (omega arith) refl in
-      let s₂ = laid-more 350 44 y₂ y₂ s₁ l₁ l₂ (omega arith) refl in
-      laid-done s₂ (omega (arith, length-append y₁ y₂, l₁, l₂)) ∙ ap₂ _++_ e₁ e₂ ∙ sym (bytes-append c p) ∙ ap bytesOf numbers-are
-
   pub record-written : length out ≡ 402 → length y₁ ≡ 394 → y₁ ≡ bytesOf (numbersOf s) → y₂ ≡ trailerBytes → putMid 394 8 (putMid 0 394 out y₁) y₂ ≡ encoded s
   unfolding encoded
   record-written h l₁ e₁ e₂ =

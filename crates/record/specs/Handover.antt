@@ -2,17 +2,14 @@
 use mathlib.Core.Path.{_≡_}
 use mathlib.Core.Bool.{true}
 use mathlib.Core.List.{List, _++_}
-use Prim.Native.Nat.{ℕ, _<_}
-use lib.ListN.{length, drop, getD}
+use Prim.Native.Nat.{ℕ}
+use lib.ListN.{length, drop}
 use Rattle.state.specs.declared.State.{State}
 use Rattle.state.specs.declared.Outcome.the-variants.{Accepted}
 use Rattle.state.specs.Outcome.{isAccepted}
 use Rattle.state.specs.State.{WellFormed, stateVerdict}
+use Rattle.coding.specs.Bytes.{Bytes}
 use Rattle.record.specs.Record.{told, versionOf, readCall, encoded}
-
--- every number is a byte
-abbrev pub Bytes : List ℕ → Type 0
-Bytes b = (i : ℕ) → getD b i 0 < 256
 
 -- what was written is read back, behind any note, with that note
 abbrev pub ReadBack : Type 0

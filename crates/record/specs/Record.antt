@@ -13,7 +13,7 @@ use Rattle.state.specs.declared.Outcome.the-variants.{OutputLength, RecordShort
 use Rattle.state.specs.Outcome.{Row, row, firstMet, isAccepted}
 use Rattle.state.specs.State.{stateRows, stateOf, numbersOf}
 use Rattle.record.specs.declared.Answer.{Answer}
-use Rattle.record.specs.Bytes.{unsigned, words, bytesOf}
+use Rattle.coding.specs.Bytes.{unsigned, words, bytesOf}
 
 -- ---- trailers
 pub record Trailer : Type 0 where

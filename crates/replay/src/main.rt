@@ -452,7 +452,7 @@ fn frame(b: &[u8]) -> bool {
         return false;
     }
     let mut sheet = [0i16; 182];
-    record::fill(&mut sheet, &b[0..364]);
+    coding::fill(&mut sheet, &b[0..364]);
     let mut samples = [0i16; 160];
     let answer = mr74::frame(&sheet, state_of(b, 182), &mut samples);
     frame_agrees(b, answer, samples)
@@ -502,7 +502,7 @@ fn refused(b: &[u8]) -> bool {
         return false;
     }
     let mut sheet = [0i16; 184];
-    record::fill(&mut sheet, &b[4..372]);
+    coding::fill(&mut sheet, &b[4..372]);
     let mut lent = [7i16; 200];
     refused_into(b, &sheet[0..n], &mut lent, room)
 }

@@ -1,7 +1,6 @@
 // Line spectral frequencies to their cosines: Lsf_lsp of TS 26.073.
 ghost use mathlib.Core.Path.{_≡_};
 ghost use lib.IntN.{pos};
-ghost use lib.ListN.{length};
 ghost use lib.Signed.{_≤ℤ_};
 ghost use Rattle.spectral.specs.Lsp.{cosine, between, lspOf, lspsOf, firstOutside, Frequencies};
 

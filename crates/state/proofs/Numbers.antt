@@ -1,11 +1,11 @@
--- A state as 197 numbers: they are as many, each of 16 bits, and the state of them is the state. Assumes nothing.
+-- A state as 197 numbers: they are as many, each of 16 bits, and the state of them is the state; and back. Assumes nothing.
 use mathlib.Core.Path.{_≡_, refl, sym, ap, _∙_}
 use mathlib.Core.List.{List, [], _∷_, _++_, append-assoc}
-use Prim.Native.Nat.{ℕ, _+_}
+use Prim.Native.Nat.{ℕ, suc, _+_, _<_}
 use native.Mathlib.Omega.{arith}
 use lib.IntN.{ℤ, pos}
-use lib.ListN.{length, take, drop, length-append}
-use lib.Seq.{take-at, drop-at, getD-append-add}
+use lib.ListN.{length, take, drop, length-append, take-append-drop, drop-of-length-le}
+use lib.Seq.{take-at, drop-at, drop-cons, drop-drop, getD-append-add}
 use Rattle.lists.specs.Lists.{at}
 use Rattle.basicop.specs.Words.{Words}
 use Rattle.basicop.proofs.Words.{words-one, words-append}
@@ -102,3 +102,23 @@ module _ (s : State) (w : WellFormed s) where
       let w₅ = words-append p₄ (s .post .«synthesis_history») w₄ (w .synthesis-history) in
       let e = words-append (s .post .«previous_residual» ∷ []) (s .post .gain .«previous_gain» ∷ []) (words-one (s .post .«previous_residual») (w .previous-residual)) (words-one (s .post .gain .«previous_gain») (w .previous-gain)) in
       rw n₅ (words-append p₅ ends w₅ e)
+
+-- ---- the numbers of the state of 197 numbers are those numbers
+module _ (xs : List ℤ) (l : length xs ≡ 197) where
+  next : (k n : ℕ) → take n (drop k xs) ++ drop (k + n) xs ≡ drop k xs
+  next k n = ap (λ (r : List ℤ). take n (drop k xs) ++ r) (sym (drop-drop n k xs)) ∙ take-append-drop n (drop k xs)
+
+  one : (k : ℕ) → k < 197 → at xs k ∷ drop (suc k) xs ≡ drop k xs
+  one k h = sym (drop-cons xs k (pos 0) (omega (arith, l)))
+
+  pub numbers-of-state : numbersOf (stateOf xs) ≡ xs
+  unfolding numbersOf stateOf
+  numbers-of-state =
+      let e₈ : drop 197 xs ≡ [] = drop-of-length-le xs {i = 197} (omega (arith, l)) in
+      let e₇ : at xs 195 ∷ at xs 196 ∷ [] ≡ drop 195 xs = ap (λ (r : List ℤ). at xs 195 ∷ at xs 196 ∷ r) (sym e₈) ∙ ap (λ (r : List ℤ). at xs 195 ∷ r) (one 196 (omega arith)) ∙ one 195 (omega arith) in
+      let e₆ = ap (λ (r : List ℤ). take 10 (drop 185 xs) ++ r) e₇ ∙ next 185 10 in
+      let e₅ = ap (λ (r : List ℤ). take 10 (drop 175 xs) ++ r) e₆ ∙ next 175 10 in
+      let e₄ = ap (λ (r : List ℤ). take 10 (drop 165 xs) ++ r) e₅ ∙ next 165 10 in
+      let e₃ = ap (λ (r : List ℤ). at xs 164 ∷ r) e₄ ∙ one 164 (omega arith) in
+      let e₂ = ap (λ (r : List ℤ). take 154 (drop 10 xs) ++ r) e₃ ∙ next 10 154 in
+      ap (λ (r : List ℤ). take 10 xs ++ r) e₂ ∙ next 0 10

@@ -1,5 +1,5 @@
 -- The starred values hold, each computed from its definition. Assumes nothing.
-use mathlib.Core.Path.{_≡_, refl}
+use mathlib.Core.Path.{refl}
 use Rattle.basicop.specs.Ops.{clamp, asr, wrap, add, sub, mult, L-add, L-sub, L-mult, L-shl, L-shr-r, L-deposit-h, doublings, norm-l}
 use Rattle.pitch.specs.Lag.{absolute, relative, lag-min}
 use Rattle.spectral.specs.Lsp.{cosine, between, lspOf}

@@ -1,4 +1,4 @@
-use mir.Syntax.{w16, w32}
+use mir.Syntax.{w16}
 use Rattle.basicop.specs.Ops.{add}
 use Rattle.lists.proofs.Signed.{got}
 use Rattle.basicop.proofs.Calls.{needsℤ}

@@ -1,5 +1,5 @@
 use mathlib.Core.Path.{_∙_}
-use Prim.Native.Nat.{ℕ, _*_, _<_}
+use Prim.Native.Nat.{_*_, _<_}
 use native.Mathlib.Nat.{div-le-self, lt-of-le-of-lt}
 use lib.Dec.{ltb→lt}
 use lib.IntN.{ℤ, pos, negsuc, _*ℤ_}

@@ -1,7 +1,5 @@
-use Prim.Native.Nat.{ℕ, _≤_, _<_}
 use native.Mathlib.Omega.{arith}
-use lib.Count.{leadingZeros, leading-le}
-use lib.Dec.{lit<}
+use lib.Count.{leading-le}
 use mir.Syntax.{w16}
 use mir.Facts.{toZ-pos}
 use Rattle.basicop.proofs.Norm.{leading-from}

@@ -1,5 +1,4 @@
-use mir.Syntax.{w16, w32, w64}
-use mir.Facts.{toZ-ofZ}
+use mir.Syntax.{w32}
 use Rattle.basicop.specs.Ops.{L-add}
 use Rattle.lists.proofs.Signed.{got}
 use Rattle.basicop.proofs.Calls.{needsℤ}

@@ -1,9 +1,9 @@
-use mathlib.Core.Path.{_≡_, _∙_, sym}
+use mathlib.Core.Path.{_≡_, sym}
 use native.Mathlib.Omega.{arith}
-use lib.IntN.{ℤ, pos, _-ℤ_, _*ℤ_}
+use lib.IntN.{pos, _-ℤ_, _*ℤ_}
 use lib.Signed.{shrZ}
 use mir.Syntax.{w16, w32}
-use mir.Val.{SFits, toZ, ofZ}
+use mir.Val.{toZ, ofZ}
 use mir.Facts.{toZ-ofZ}
 use Rattle.lists.proofs.Signed.{got}
 use Rattle.basicop.specs.Ops.{asr, modZ}

@@ -1,5 +1,3 @@
-use mir.Syntax.{w16, w32, w64}
-use mir.Facts.{toZ-ofZ}
 use Rattle.basicop.proofs.Calls.{needsℤ, callsℤ}
 use Rattle.basicop.proofs.l_msu.Statement.{statement}
 use Rattle.basicop.proofs.l_msu.Tie as tie

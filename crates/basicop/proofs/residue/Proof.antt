@@ -1,5 +1,4 @@
 use mathlib.Core.Path.{_≡_}
-use Prim.Native.Nat.{ℕ}
 use lib.Dec.{lit<}
 use lib.IntN.{ℤ, pos, _-ℤ_, _*ℤ_}
 use lib.Signed.{shrZ}

@@ -1,4 +1,3 @@
-use mathlib.Core.Path.{_∙_}
 use native.Mathlib.Omega.{arith}
 use lib.Dec.{lit≤}
 use mir.Syntax.{w32}

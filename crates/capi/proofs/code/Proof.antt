@@ -1,8 +1,6 @@
 use borrow.Author.Needs.{needs}
 use native.Mathlib.Omega.{arith}
-use mathlib.Core.Path.{_≡_}
 use Prim.Native.Nat.{_<_, _≤_}
-use Rattle.state.specs.Outcome.{numberOf}
 use Rattle.capi.proofs.Codes.{number-most}
 use Rattle.capi.proofs.code.Statement.{statement}
 use Rattle.capi.proofs.code.Tie as tie

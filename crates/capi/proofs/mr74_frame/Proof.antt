@@ -1,5 +1,4 @@
 use borrow.Author.Needs.{needs}
-use mathlib.Core.Path.{_≡_}
 use denote.Ref.{now}
 use Rattle.capi.specs.Capi.{sheetIn, roomIn}
 use Rattle.capi.proofs.Codes.{frame-place}

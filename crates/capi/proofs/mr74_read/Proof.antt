@@ -1,5 +1,5 @@
 use borrow.Author.Needs.{needs}
-use mathlib.Core.Path.{_≡_, refl}
+use mathlib.Core.Path.{refl}
 use denote.Ref.{now}
 use Rattle.capi.proofs.Codes.{read-place}
 use Rattle.capi.proofs.Calls.{read-unfit, read-given}

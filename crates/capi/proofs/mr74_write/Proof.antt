@@ -1,5 +1,5 @@
 use borrow.Author.Needs.{needs}
-use mathlib.Core.Path.{_≡_, ap}
+use mathlib.Core.Path.{ap}
 use denote.Ref.{now}
 use Rattle.record.specs.Record.{Written}
 use Rattle.capi.proofs.Codes.{write-place}

@@ -1,5 +1,5 @@
-use mathlib.Core.Path.{_≡_, sym, ap, _∙_}
-use mathlib.Core.Bool.{Bool, true, false}
+use mathlib.Core.Path.{_≡_, ap, _∙_}
+use mathlib.Core.Bool.{true, false}
 use mathlib.Core.List.{List}
 use borrow.Author.Needs.{needs}
 use lib.IntN.{ℤ, pos}
@@ -8,7 +8,6 @@ use mir.Syntax.{w16}
 use mir.Val.{SFits}
 use mir.Facts.{toZ-ofZ}
 use Rattle.basicop.specs.Ops.{sub, shl}
-use Rattle.basicop.specs.Divided.{undivided}
 use Rattle.basicop.proofs.Clamp.{clamp-above}
 use Rattle.energy.specs.Gain.{agc2}
 use Rattle.excitation.specs.Excitation.{sharpening}

@@ -1,8 +1,5 @@
-use mathlib.Core.Path.{_≡_, ap, _∙_}
-use mathlib.Core.List.{List}
-use Prim.Native.Nat.{ℕ}
+use mathlib.Core.Path.{ap, _∙_}
 use borrow.Author.Needs.{needs}
-use lib.IntN.{ℤ}
 use Rattle.synthesis.specs.declared.Output.{Output}
 use Rattle.synthesis.specs.declared.Filtered.{Filtered}
 use Rattle.decoder.proofs.Synthesis.{synthesised-again, synthesised-kept}

@@ -1,6 +1,5 @@
 use mathlib.Core.Path.{_≡_, refl, ap, _∙_}
 use Prim.Native.Nat.{zero, suc}
-use borrow.Author.Needs.{needs}
 use lib.IntN.{ℤ, pos, negsuc, negℤ, natAbs, _-ℤ_, +ℤ-idl}
 use lib.Signed.{_<ℤ_, _≤ℤ_}
 use mir.Syntax.{w32, w64}

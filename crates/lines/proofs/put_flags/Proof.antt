@@ -1,6 +1,5 @@
 use native.Mathlib.Omega.{arith}
 use borrow.Author.Needs.{needs}
-use lib.ListN.{length}
 use Rattle.lines.proofs.Peaks.{digits-four}
 use Rattle.lines.proofs.put_flags.Statement.{statement}
 use Rattle.lines.proofs.put_flags.Tie as tie

@@ -1,4 +1,3 @@
-use mathlib.Core.Path.{_≡_}
 use mathlib.Core.Bool.{not}
 use Prim.Native.Nat.{_≤_, _-_}
 use borrow.Author.Needs.{needs}

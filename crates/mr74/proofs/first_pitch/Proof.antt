@@ -2,7 +2,7 @@ use mathlib.Core.Path.{_≡_, ap, sym, _∙_}
 use borrow.Author.Needs.{needs}
 use borrow.Author.Tests.{not-true, not-false}
 use denote.Ref.{now}
-use lib.IntN.{ℤ, pos}
+use lib.IntN.{pos}
 use mir.Syntax.{w16}
 use Rattle.lists.specs.Lists.{at}
 use Rattle.lists.proofs.Signed.{back}

@@ -1,10 +1,8 @@
-use mathlib.Core.Path.{_≡_, ap, sym, _∙_}
-use mathlib.Core.Bool.{true}
+use mathlib.Core.Path.{ap, sym, _∙_}
 use borrow.Author.Needs.{needs}
 use denote.Ref.{now}
 use lib.ListN.{length}
 use Rattle.state.specs.Outcome.{isAccepted}
-use Rattle.mr74.specs.Verdict.{verdict}
 use Rattle.mr74.proofs.Passed.{Passed, passed}
 use Rattle.mr74.proofs.Answers.{answer-accepted, answer-refused}
 use Rattle.mr74.proofs.frame.Statement.{statement}

@@ -5,7 +5,7 @@ use denote.Ref.{now}
 use Rattle.lists.proofs.Signed.{got}
 use Rattle.lists.proofs.Fill.{Filled, fill-none, fill-more, fill-whole}
 use Rattle.mr74.specs.Sheet.{innovationOf}
-use Rattle.mr74.proofs.Sheets.{stretch-length, stretch-at}
+use Rattle.lists.proofs.Entries.{stretch-length, stretch-at}
 use Rattle.mr74.proofs.innovation.Statement.{statement}
 use Rattle.mr74.proofs.innovation.Tie as tie
 

@@ -8,7 +8,7 @@ use denote.Ref.{now}
 use Rattle.lists.proofs.Signed.{got}
 use Rattle.lists.proofs.Fill.{Filled, fill-none, fill-more, fill-whole}
 use Rattle.mr74.specs.Sheet.{lsfsOf}
-use Rattle.mr74.proofs.Sheets.{stretch-length}
+use Rattle.lists.proofs.Entries.{stretch-length}
 use Rattle.mr74.proofs.lsfs.Statement.{statement}
 use Rattle.mr74.proofs.lsfs.Tie as tie
 

@@ -1,11 +1,11 @@
-use mathlib.Core.Path.{_≡_, ap, sym, _∙_, subst}
+use mathlib.Core.Path.{_≡_, ap, _∙_, subst}
 use Prim.Native.Nat.{ℕ, _≤_, _<_}
 use borrow.Author.Needs.{needs}
 use denote.Ref.{now}
 use Rattle.spectral.specs.Lsp.{firstOutside}
 use Rattle.state.specs.declared.Outcome.the-variants.{Lsf, PitchIndex, Gain}
 use Rattle.mr74.specs.Sheet.{lsfsOf}
-use Rattle.mr74.proofs.Verdicts.{Rows-1, Rows-5, Rows-2, Rows-3, Rows-4, row-1, row-5, row-2, row-3, row-4, rows-16-17}
+use Rattle.mr74.proofs.Verdicts.{Rows-5, Rows-2, Rows-3, Rows-4, row-1, row-5, row-2, row-3, row-4, rows-16-17}
 use Rattle.mr74.proofs.validate.Statement.{statement}
 use Rattle.mr74.proofs.validate.Tie as tie
 

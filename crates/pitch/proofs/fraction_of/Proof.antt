@@ -1,6 +1,6 @@
 use mathlib.Core.Path.{_≡_, sym, _∙_}
 use Prim.Native.Nat.{ℕ, _%_, _<_}
-use borrow.Author.Tests.{eq-eqb, ne-eqb}
+use borrow.Author.Tests.{ne-eqb}
 use lib.IntN.{pos, negsuc}
 use Rattle.pitch.specs.Lag.{relative}
 use Rattle.pitch.proofs.Lags.{thirds-is}

@@ -1,5 +1,5 @@
 use mathlib.Core.Path.{_≡_, sym, ap, _∙_}
-use Prim.Native.Nat.{ℕ, max, _-_, _<_, _≤_}
+use Prim.Native.Nat.{ℕ, max, _-_, _<_}
 use borrow.Author.Needs.{needs}
 use native.Mathlib.Omega.{arith}
 use lib.IntN.{pos}

@@ -7,7 +7,7 @@ use mir.Syntax.{w16}
 use Rattle.lists.proofs.Signed.{got}
 use Rattle.state.specs.Outcome.{firstMet}
 use Rattle.state.specs.State.{stateRows}
-use Rattle.record.proofs.Words.{at-words}
+use Rattle.coding.proofs.Words.{at-words}
 use Rattle.record.proofs.validate_body.Statement.{statement}
 use Rattle.record.proofs.validate_body.Tie as tie
 

@@ -1,6 +1,5 @@
-use mathlib.Core.Path.{_≡_}
 use borrow.Author.Needs.{needs}
-use lib.IntN.{ℤ, pos, negℤ, _-ℤ_, +ℤ-idl}
+use lib.IntN.{ℤ, pos, _-ℤ_}
 use lib.Signed.{_<ℤ_, _≤ℤ_}
 use mir.Syntax.{w32, w64}
 use mir.Val.{SFits}

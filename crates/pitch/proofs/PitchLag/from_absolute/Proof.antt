@@ -1,6 +1,5 @@
-use mathlib.Core.Path.{_≡_, refl, sym, _∙_}
+use mathlib.Core.Path.{refl, sym, _∙_}
 use borrow.Author.Needs.{needs}
-use native.Mathlib.Omega.{arith}
 use Rattle.pitch.proofs.Lags.{lag-eq, absolute-below, absolute-from}
 use Rattle.pitch.proofs.PitchLag.from_absolute.Statement.{statement}
 use Rattle.pitch.proofs.PitchLag.from_absolute.Tie as tie

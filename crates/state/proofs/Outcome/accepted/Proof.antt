@@ -1,6 +1,5 @@
 use borrow.Author.Needs.{needs}
-use borrow.Author.Tests.{eq-eqb, ne-eqb}
-use mathlib.Core.Path.{_≡_, ap, _∙_}
+use mathlib.Core.Path.{ap}
 use Prim.Native.Nat.{ℕ}
 use lib.Dec.{eqb}
 use Rattle.state.proofs.Outcome.accepted.Statement.{statement}

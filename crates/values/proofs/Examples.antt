@@ -1,9 +1,8 @@
 -- The calls of specs/Examples.antt, computed from the definition. Assumes nothing.
 use mathlib.Core.Path.{_≡_, refl, ap}
 use mathlib.Core.Bool.{false, cond, _||_}
-use mathlib.Core.List.{[], _∷_}
 use Prim.Native.Nat.{ℕ, zero, suc}
-use lib.IntN.{ℤ, pos}
+use lib.IntN.{pos}
 use lib.ListN.{replicate, getD, length-replicate}
 use mir.Syntax.{w16}
 use mir.Val.{SFits}
@@ -31,11 +30,11 @@ use Rattle.postfilter.specs.Preemphasis.{preemphasised}
 use Rattle.postfilter.specs.Postfilter.{filtered, processed}
 use Rattle.state.specs.Outcome.{firstMet}
 use Rattle.state.specs.State.{WellFormed, stateVerdict, stateOf}
 use Rattle.mr74.specs.Sheet.{lagsOf}
 use Rattle.mr74.specs.Verdict.{firstIndexOutside, verdict}
 use Rattle.mr74.specs.Frame.{frameTrace}
 use Rattle.mr74.specs.Calls.{traceOf, runCalls, anyAccepted, latestFlag}
-use Rattle.mr74.specs.Examples.{silent, loud, call, Seen, seen, expected, Example, ordered, FrameOrder, placed, Places}
+use Rattle.values.specs.Examples.{silent, loud, call, Seen, seen, expected, Example, ordered, FrameOrder, placed, Places}
 
 -- n zeros
 zeros : (n : ℕ) → Words n (replicate n (pos 0))

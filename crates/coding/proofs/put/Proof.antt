@@ -7,10 +7,10 @@ use lib.ListN.{length, take, drop, length-set}
 use mir.Syntax.{w16}
 use Rattle.lists.specs.Lists.{at}
 use Rattle.lists.proofs.Signed.{back}
-use Rattle.record.specs.Bytes.{bits16, bytesOf}
-use Rattle.record.proofs.Bytes.{put-more, put-done}
-use Rattle.record.proofs.put.Statement.{statement}
-use Rattle.record.proofs.put.Tie as tie
+use Rattle.coding.specs.Bytes.{bits16, bytesOf}
+use Rattle.coding.proofs.Bytes.{put-more, put-done}
+use Rattle.coding.proofs.put.Statement.{statement}
+use Rattle.coding.proofs.put.Tie as tie
 
 abbrev Inv-loop : tie.InvT-loop
 Inv-loop dst₀ src i₀ j₀ dst i j =

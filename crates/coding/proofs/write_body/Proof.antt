@@ -2,9 +2,9 @@ use borrow.Author.Needs.{needs}
 use mathlib.Core.Path.{_≡_}
 use denote.Ref.{now}
 use lib.ListN.{length}
-use Rattle.record.proofs.Writer.{body-written}
-use Rattle.record.proofs.write_body.Statement.{statement}
-use Rattle.record.proofs.write_body.Tie as tie
+use Rattle.coding.proofs.Laid.{body-written}
+use Rattle.coding.proofs.write_body.Statement.{statement}
+use Rattle.coding.proofs.write_body.Tie as tie
 
 returns : tie.Need-returns
 returns c =

@@ -16,7 +16,7 @@ use mir.Val.{toZ, ofZ, sel, Fits, SFits}
 use mir.ValLaws.{toZ-pos}
 use Rattle.lists.specs.Lists.{at, minus}
 use Rattle.lists.proofs.Signed.{back}
-use Rattle.record.specs.Bytes.{signed16, bits16, unsigned, words, bytesOf}
+use Rattle.coding.specs.Bytes.{signed16, bits16, unsigned, words, bytesOf, Bytes}
 
 -- ---- one number
 chosen : (b : Bool) (x y z : ℤ) → y ≡ z → sel b x y ≡ cond b x z
@@ -131,7 +131,7 @@ bytes-of-pair x y h k =
     let l : x + 256 * y < 65536 = omega arith in
     rw (bits-back (x + 256 * y) l) (omega arith, omega arith)
 
-pub bytes-back : (n : ℕ) (b : List ℕ) → length b ≡ 2 * n → ((i : ℕ) → getD b i 0 < 256) → bytesOf (words b) ≡ b
+pub bytes-back : (n : ℕ) (b : List ℕ) → length b ≡ 2 * n → Bytes b → bytesOf (words b) ≡ b
 unfolding words bytesOf
 bytes-back n [] l f = refl
 bytes-back n (x ∷ []) l f = absurd (omega (arith, l))

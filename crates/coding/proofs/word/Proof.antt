@@ -1,9 +1,9 @@
 use mathlib.Core.Path.{ap, _∙_}
 use borrow.Author.Needs.{needs}
-use Rattle.record.specs.Bytes.{signed16}
-use Rattle.record.proofs.Bytes.{signed-is, flipped-twice}
-use Rattle.record.proofs.word.Statement.{statement}
-use Rattle.record.proofs.word.Tie as tie
+use Rattle.coding.specs.Bytes.{signed16}
+use Rattle.coding.proofs.Bytes.{signed-is, flipped-twice}
+use Rattle.coding.proofs.word.Statement.{statement}
+use Rattle.coding.proofs.word.Tie as tie
 
 returns : tie.Need-returns
 returns c = let u = c .before .unsigned in signed-is (u .result) (search needs) ∙ ap signed16 (u .ensures)

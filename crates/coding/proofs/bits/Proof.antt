@@ -1,7 +1,7 @@
 use native.Mathlib.Omega.{arith}
-use Rattle.record.proofs.Bytes.{cast-of, flipped-of}
-use Rattle.record.proofs.bits.Statement.{statement}
-use Rattle.record.proofs.bits.Tie as tie
+use Rattle.coding.proofs.Bytes.{cast-of, flipped-of}
+use Rattle.coding.proofs.bits.Statement.{statement}
+use Rattle.coding.proofs.bits.Tie as tie
 
 cast-result : tie.Need-cast-result
 cast-result c = cast-of (c .before .args .x) (c .before .fits .x .sfits) (c .if1 .taken) .0

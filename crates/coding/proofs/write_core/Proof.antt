@@ -10,10 +10,10 @@ use lib.Signed.{mag}
 use mir.Syntax.{w16}
 use mir.Val.{hbits}
 use Rattle.lists.proofs.Signed.{back}
-use Rattle.record.specs.Bytes.{bytesOf}
-use Rattle.record.proofs.Writer.{core-written}
-use Rattle.record.proofs.write_core.Statement.{statement}
-use Rattle.record.proofs.write_core.Tie as tie
+use Rattle.coding.specs.Bytes.{bytesOf}
+use Rattle.coding.proofs.Laid.{core-written}
+use Rattle.coding.proofs.write_core.Statement.{statement}
+use Rattle.coding.proofs.write_core.Tie as tie
 
 -- the lengths of the arrays, and the range of the number
 lsp-length : (c : tie.Start) → length (c .args .core .lsp) ≡ 10

@@ -6,10 +6,10 @@ use borrow.Author.Needs.{needs}
 use lib.ListN.{length, take, drop, length-set}
 use mir.Syntax.{w16}
 use Rattle.lists.proofs.Signed.{got}
-use Rattle.record.specs.Bytes.{words}
-use Rattle.record.proofs.Bytes.{fill-more, fill-done}
-use Rattle.record.proofs.fill.Statement.{statement}
-use Rattle.record.proofs.fill.Tie as tie
+use Rattle.coding.specs.Bytes.{words}
+use Rattle.coding.proofs.Bytes.{fill-more, fill-done}
+use Rattle.coding.proofs.fill.Statement.{statement}
+use Rattle.coding.proofs.fill.Tie as tie
 
 abbrev Inv-loop : tie.InvT-loop
 Inv-loop dst₀ src i₀ j₀ dst i j =

@@ -10,10 +10,10 @@ use lib.Signed.{mag}
 use mir.Syntax.{w16}
 use mir.Val.{hbits}
 use Rattle.lists.proofs.Signed.{back}
-use Rattle.record.specs.Bytes.{bytesOf}
-use Rattle.record.proofs.Writer.{post-written}
-use Rattle.record.proofs.write_post.Statement.{statement}
-use Rattle.record.proofs.write_post.Tie as tie
+use Rattle.coding.specs.Bytes.{bytesOf}
+use Rattle.coding.proofs.Laid.{post-written}
+use Rattle.coding.proofs.write_post.Statement.{statement}
+use Rattle.coding.proofs.write_post.Tie as tie
 
 -- the lengths of the arrays, and the ranges of the numbers
 input-length : (c : tie.Start) → length (c .args .post .«input_history») ≡ 10

@@ -6,7 +6,7 @@ use native.Mathlib.Omega.{arith}
 use lib.IntN.{ℤ}
 use lib.ListN.{length, take, drop, getD}
 use Rattle.lists.specs.Lists.{at}
-use Rattle.record.specs.Bytes.{signed16, unsigned, words}
+use Rattle.coding.specs.Bytes.{signed16, unsigned, words}
 
 twice : (n : ℕ) → 2 * suc n ≡ suc (suc (2 * n))
 twice n = omega arith

@@ -1,6 +1,6 @@
 use borrow.Author.Needs.{needs}
-use Rattle.record.proofs.state_in.Statement.{statement}
-use Rattle.record.proofs.state_in.Tie as tie
+use Rattle.coding.proofs.state_in.Statement.{statement}
+use Rattle.coding.proofs.state_in.Tie as tie
 
 returns : tie.Need-returns
 returns c = λ i. record { core = c .before .core-in .ensures i; post = c .post-in .ensures i }
