@@ -24,7 +24,7 @@ steps-same us us′ u v u′ v′ e f g =
 
 -- ---- one sample
 module _ (a : List ℤ) (x : ℤ) (y : List ℤ) where
-  acc-same : (k : ℕ) → leaves (sums a x y k) ≡ false → acc a x y k ≡ sum a x y k
+  pub acc-same : (k : ℕ) → leaves (sums a x y k) ≡ false → acc a x y k ≡ sum a x y k
   unfolding acc sum sums L-mult L-sub
   acc-same zero e = rw (*ℤ-comm x (at a 0)) (inside-clamp (pos 2 *ℤ (at a 0 *ℤ x)) (sym (leaves-one (pos 2 *ℤ (at a 0 *ℤ x))) ∙ e))
   acc-same (suc k) e =

@@ -5,13 +5,14 @@ use mathlib.Core.Bool.{Bool, true, false, _||_, or-true, or-false}
 use mathlib.Core.List.{List}
 use native.Mathlib.Nat.{zero-add, suc-add, le-refl}
 use native.Mathlib.Omega.{arith}
-use lib.IntN.{ℤ, pos, natAbs, _-ℤ_, _*ℤ_}
+use lib.IntN.{ℤ, pos, natAbs, _-ℤ_, _*ℤ_, *ℤ-comm}
 use lib.ListN.{length, take}
 use lib.Seq.{getD-take, length-take-le}
 use mir.Syntax.{w32}
 use mir.Val.{SFits}
 use Rattle.lists.specs.Lists.{at}
 use Rattle.basicop.specs.Ops.{L-mult, L-msu}
+use Rattle.basicop.proofs.Fits.{L-mult-fits, L-sub-fits}
 use Rattle.basicop.proofs.Ints.{sfits-by}
 use Rattle.basicop.proofs.Range.{natAbs-is, natAbs-sub}
 use Rattle.synthesis.specs.Fed.{outside, ago, leaves}
@@ -20,6 +21,7 @@ use Rattle.synthesis.specs.Whole.{product, sum, sums}
 use Rattle.synthesis.specs.Pass.{weight, Halved}
 use Rattle.basicop.proofs.Tests.{or-right}
 use Rattle.synthesis.proofs.Flags.{leaves-append, leaves-one, leaves-two}
+use Rattle.synthesis.proofs.Agree.{acc-same}
 use Rattle.synthesis.proofs.Halves.{double-sub, inside-size, small-inside}
 
 -- y(n - k) in a buffer that has y(n) at p
@@ -48,6 +50,11 @@ tapped-more {k = k} r h ev es =
 
 pub tapped-done : {a : List ℤ} {x : ℤ} {y : List ℤ} {s : ℤ} {k : ℕ} → Tapped a x y s k → (m : ℕ) → k - 1 ≡ m → s ≡ acc a x y m
 tapped-done r m e = rw e at (r .is)
+
+acc-fits : (a : List ℤ) (x : ℤ) (y : List ℤ) (k : ℕ) → SFits w32 (acc a x y k)
+unfolding acc
+acc-fits a x y zero = L-mult-fits x (at a 0)
+acc-fits a x y (suc k) = L-sub-fits (acc a x y k) (L-mult (at a (suc k)) (ago y (suc k)))
 
 -- ---- the whole sum at half its size
 -- once a number lies outside one does, however many follow
@@ -155,3 +162,11 @@ module _ {a : List ℤ} {x : ℤ} {y : List ℤ} {s : ℤ} {k : ℕ} (p : ℤ) (
         run = summed-more (r .run) h ev ep refl (rw (small-inside p (still-small .0), small-inside (s -ℤ p) (still-small .1 .0)));
         small = still-small .1 .1;
       }
+
+-- ---- where none lies outside, twice the half is the clamped sum
+module _ {a : List ℤ} {x : ℤ} {y : List ℤ} {k : ℕ} {half : ℤ} (r : Halved a x y k half false) where
+  pub halved-acc : half *ℤ pos 2 ≡ acc a x y k
+  halved-acc = *ℤ-comm half (pos 2) ∙ r .is refl ∙ sym (acc-same a x y k (sym (r .flag)))
+
+  pub halved-fits : SFits w32 (half *ℤ pos 2)
+  halved-fits = rw halved-acc (acc-fits a x y k)

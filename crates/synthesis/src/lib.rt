@@ -74,6 +74,17 @@ fn accumulated(a: &[i16; 11], x: i16, buf: &[i16; 50], at: usize) -> i32
     s
 }
 
+// The same. Where the weight of the row is below 32768 no step can clamp, and the sum is twice what `untested` gives.
+fn clamped_sum(a: &[i16; 11], x: i16, buf: &[i16; 50], at: usize, light: bool) -> i32
+    requires { ⌜ (length (now buf) ≡ 50) × ((10 ≤ at) × ((at < 50) × (light ≡ ltb (weight (now a) 10) 32768))) ⌝ }
+    ensures { λ r. ⌜ r ≡ acc (now (a .entry)) x (take at (now (buf .entry))) 10 ⌝ }
+{
+    if light {
+        return untested(a, x, buf, at) * 2;
+    }
+    accumulated(a, x, buf, at)
+}
+
 // The samples for the first `count` numbers of the excitation, and zeros after them.
 pub fn first_samples(
     coefficients: [i16; 11],
@@ -84,9 +95,10 @@ pub fn first_samples(
     requires { ⌜ count ≤ 40 ⌝ }
     ensures { λ r. ⌜ r ≡ firstSamples count 10 coefficients excitation history ⌝ }
 {
+    let quick = light(&coefficients);
     let mut buf = roomed(history);
     for n in 0..count {
-        let s = accumulated(&coefficients, excitation[n], &buf, n + 10);
+        let s = clamped_sum(&coefficients, excitation[n], &buf, n + 10, quick);
         buf[n + 10] = round(l_shl(s, 3));
     }
     after_history(buf)
@@ -153,7 +165,7 @@ fn tested(a: &[i16; 11], x: i16, buf: &[i16; 50], at: usize) -> Sum
     Sum { half: s, out }
 }
 
-fn product(a: i16, y: i16) -> i32
+pub fn product(a: i16, y: i16) -> i32
     ensures { λ r. ⌜ (r ≡ a *ℤ y) × (natAbs r ≤ natAbs a * 32768) ⌝ }
 {
     (a as i32) * (y as i32)
@@ -181,7 +193,7 @@ fn size(v: i16) -> u32
 }
 
 // The weight of the row is below 32768.
-fn light(a: &[i16; 11]) -> bool
+pub fn light(a: &[i16; 11]) -> bool
     ensures { λ r. ⌜ r ≡ ltb (weight (now (a .entry)) 10) 32768 ⌝ }
 {
     let mut w = size(a[0]);
