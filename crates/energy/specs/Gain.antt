@@ -10,6 +10,7 @@ use Rattle.basicop.specs.Divided.{Divided, undivided, divided, after}
 use Rattle.energy.specs.Energy.{energy}
 use Rattle.energy.specs.Root.{inverseRoot}
 use Rattle.energy.specs.declared.Controlled.{Controlled}
+use Rattle.energy.specs.declared.GainControl.{GainControl}
 
 -- ---- the gain (Q12) from the energy out to the energy into
 -- exp: norm_l of the energy, with one bit to spare
@@ -72,3 +73,7 @@ agc gain into out =
     cond (eqZ (energy out) (pos 0))
     (undivided (record { samples = out; control = record { «previous_gain» = pos 0 } }))
     (after (energyGain (energy out) (energy into)) (λ (g : ℤ). undivided (controlled (target g) gain out)))
+
+-- samples, and the gain control after them
+abbrev pub together : List ℤ → GainControl → Controlled
+together samples control = record { samples = samples; control = control }

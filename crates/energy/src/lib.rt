@@ -7,7 +7,7 @@ ghost use lib.Signed.{_≤ℤ_, _<ℤ_};
 ghost use Rattle.basicop.specs.Ops.{L-shl, L-shr, round, norm-l, div-s};
 ghost use Rattle.energy.specs.Energy.{squares, energy};
 ghost use Rattle.energy.specs.Root.{inverseTable, rootScaled, rootIndex, rootFraction, rootBetween, inverseRoot};
-ghost use Rattle.energy.specs.Gain.{gain-out, gain-in, ratio, energyGain, scaledBy, agc2, smooth, controlled, agc};
+ghost use Rattle.energy.specs.Gain.{gain-out, gain-in, ratio, energyGain, scaledBy, agc2, smooth, controlled, agc, together};
 use basicop::add;
 use basicop::clamp32;
 use basicop::div_s;
@@ -193,7 +193,7 @@ fn energy_ratio(output_energy: i32, input_energy: i32) -> i32
 }
 
 // The gain (Q12) that brings samples of the output's energy to that of the input.
-// `match_energy` and `process` test that the output's energy is not 0.
+// `match_energy` and `agc` test that the output's energy is not 0.
 fn energy_gain(input: [i16; 40], output_energy: i32) -> i16
     requires { ⌜ pos 0 <ℤ «output_energy» ⌝ }
     ensures { λ r. ⌜ r ≡ energyGain «output_energy» (energy input) .value ⌝ }
@@ -268,7 +268,7 @@ fn smoothed(samples: [i16; 40], gain: i16, goal: i16) -> Controlled
 }
 
 // agc: the output, brought to the energy of the input by the smoothed gain.
-pub fn process(control: GainControl, input: [i16; 40], output: [i16; 40]) -> Controlled
+fn agc(control: GainControl, input: [i16; 40], output: [i16; 40]) -> Controlled
     ensures { λ r. ⌜ r ≡ agc (control .«previous_gain») input output .value ⌝ }
 {
     let output_energy = energy(output);
@@ -280,4 +280,25 @@ pub fn process(control: GainControl, input: [i16; 40], output: [i16; 40]) -> Con
     }
     let goal = mult(energy_gain(input, output_energy), 3276);
     smoothed(output, control.previous_gain, goal)
+}
+
+// agc with the smoothed gain lent by the caller and updated there.
+pub fn process(control: &mut GainControl, input: [i16; 40], output: [i16; 40]) -> [i16; 40]
+    ensures { λ r. ⌜ together r (now (control .exit)) ≡ agc (now (control .entry) .«previous_gain») input output .value ⌝ }
+{
+    let made = agc(*control, input, output);
+    control.previous_gain = made.control.previous_gain;
+    made.samples
+}
+
+// agc for a caller with a gain control by value, which is lent to `process`.
+pub fn control_gain(control: GainControl, input: [i16; 40], output: [i16; 40]) -> Controlled
+    ensures { λ r. ⌜ r ≡ agc (control .«previous_gain») input output .value ⌝ }
+{
+    let mut lent = control;
+    let samples = process(&mut lent, input, output);
+    Controlled {
+        samples,
+        control: lent,
+    }
 }

@@ -233,7 +233,7 @@ pub fn filter(memory: Postfilter, coefficients: [i16; 11], samples: [i16; 40]) -
     let unscaled = out.samples;
     let synthesis_history = out.history;
     let gain = memory.gain;
-    let controlled = energy::process(gain, samples, unscaled);
+    let controlled = energy::control_gain(gain, samples, unscaled);
     let scaled = controlled.samples;
     let control = controlled.control;
     let input_history = synthesis::newest(samples);

@@ -234,7 +234,7 @@ fn gain_control(b: &[u8]) -> bool {
     let control = GainControl {
         previous_gain: word(b, 0),
     };
-    let r = energy::process(control, forty(b, 1), forty(b, 41));
+    let r = energy::control_gain(control, forty(b, 1), forty(b, 41));
     let samples = r.samples;
     subframe(b, 81, samples) && word(b, 121) == r.control.previous_gain
 }
