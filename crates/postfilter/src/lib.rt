@@ -2,9 +2,11 @@
 ghost use mathlib.Core.Path.{_≡_};
 ghost use mathlib.Core.List.{_++_};
 ghost use Prim.Native.Nat.{_+_, _*_, _<_, _≤_};
+ghost use lib.Dec.{ltb};
 ghost use lib.IntN.{pos};
 ghost use lib.ListN.{length, take, replicate};
 ghost use Rattle.lists.specs.Lists.{at};
+ghost use Rattle.synthesis.specs.Pass.{weight};
 ghost use Rattle.postfilter.specs.Weight.{weighted};
 ghost use Rattle.postfilter.specs.Residual.{residualSum, residual};
 ghost use Rattle.postfilter.specs.Tilt.{impulse, energy, correlation, tiltOf};
@@ -20,6 +22,8 @@ use basicop::round;
 use basicop::sub;
 use energy::GainControl;
 use lpc::Rows;
+use synthesis::light;
+use synthesis::product;
 
 // What a subframe leaves to the next: its last ten inputs, the last ten samples of its second synthesis, its last residual, and the smoothed gain.
 pub struct Postfilter {
@@ -82,7 +86,7 @@ fn joined(opened: [i16; 50], samples: [i16; 40]) -> [i16; 50]
     r
 }
 
-// The sum for the input at a place.
+// The sum for the input at a place, by clamped steps.
 fn residual_sum(a: &[i16; 11], x: &[i16; 50], place: usize) -> i32
     requires { ⌜ (10 ≤ place) × (place < 50) ⌝ }
     ensures { λ r. ⌜ r ≡ residualSum (now (a .entry)) (now (x .entry)) place ⌝ }
@@ -94,13 +98,37 @@ fn residual_sum(a: &[i16; 11], x: &[i16; 50], place: usize) -> i32
     s
 }
 
+// The same of a row whose weight, |a0| + .. + |a10|, is below 32768: no step can clamp, and half the sum is added up.
+fn plain_sum(a: &[i16; 11], x: &[i16; 50], place: usize) -> i32
+    requires { ⌜ (10 ≤ place) × ((place < 50) × (weight (now a) 10 < 32768)) ⌝ }
+    ensures { λ r. ⌜ r ≡ residualSum (now (a .entry)) (now (x .entry)) place ⌝ }
+{
+    let mut s = product(a[0], x[place]);
+    for j in 0..10 {
+        s = s + product(a[j + 1], x[place - (j + 1)]);
+    }
+    2 * s
+}
+
+// The one or the other.
+fn summed(a: &[i16; 11], x: &[i16; 50], place: usize, light: bool) -> i32
+    requires { ⌜ (10 ≤ place) × ((place < 50) × (light ≡ ltb (weight (now a) 10) 32768)) ⌝ }
+    ensures { λ r. ⌜ r ≡ residualSum (now (a .entry)) (now (x .entry)) place ⌝ }
+{
+    if light {
+        return plain_sum(a, x, place);
+    }
+    residual_sum(a, x, place)
+}
+
 fn residual(numerator: [i16; 11], history: [i16; 10], samples: [i16; 40]) -> [i16; 40]
     ensures { λ r. ⌜ r ≡ residual numerator (history ++ samples) ⌝ }
 {
+    let quick = light(&numerator);
     let x = joined(opened(history), samples);
     let mut r = [0i16; 40];
     for n in 0..40 {
-        r[n] = round(l_shl(residual_sum(&numerator, &x, n + 10), 3));
+        r[n] = round(l_shl(summed(&numerator, &x, n + 10, quick), 3));
     }
     r
 }

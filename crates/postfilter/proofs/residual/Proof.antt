@@ -11,10 +11,10 @@ use Rattle.postfilter.proofs.residual.Statement.{statement}
 use Rattle.postfilter.proofs.residual.Tie as tie
 
 abbrev Inv-loop : tie.InvT-loop
-Inv-loop numerator x r₀ n₀ r n = (n ≤ 40) × Filled 40 40 (residual numerator x) r n
+Inv-loop numerator quick x r₀ n₀ r n = (n ≤ 40) × Filled 40 40 (residual numerator x) r n
 
 abbrev μ-loop : tie.MeasureT-loop
-μ-loop numerator x r₀ n₀ r n = 40 - n
+μ-loop numerator quick x r₀ n₀ r n = 40 - n
 
 loop-holds : tie.Need-loop-holds Inv-loop μ-loop
 unfolding residual
@@ -26,8 +26,8 @@ loop-again c =
     let m = c .before .before in
     let l = m .before .before .before .before in
     let x = l .before .joined .result in
-    let a = l .before .before .before .args .t1 in
-    let e : toZ w16 (ofZ w16 (c .round .result)) ≡ residualAt a x (l .loop .n + 10) = cc (got w16 (c .round .ok) (c .round .ensures), got w32 (c .before .l-shl .ok) (c .before .l-shl .ensures), got w32 (m .residual-sum .ok) (m .residual-sum .ensures)) in
+    let a = l .before .before .before .before .before .args .t1 in
+    let e : toZ w16 (ofZ w16 (c .round .result)) ≡ residualAt a x (l .loop .n + 10) = cc (got w16 (c .round .ok) (c .round .ensures), got w32 (c .before .l-shl .ok) (c .before .l-shl .ensures), got w32 (m .summed .ok) (m .summed .ensures)) in
     (search needs, fill-more (l .loop .inv .1) (e ∙ at-tab (λ (n : ℕ). residualAt a x (n + 10)) 40 (l .loop .n) (search needs)) (search needs) (search needs))
 
 returns : tie.Need-returns Inv-loop μ-loop
@@ -41,6 +41,7 @@ residual-spec =
     (tie.spec
     Inv-loop
     μ-loop
+    (λ c κs. search needs)
     (λ c κs. search needs)
     (λ c κs. search needs)
     loop-holds
