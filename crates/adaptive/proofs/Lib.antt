@@ -1,6 +1,9 @@
--- Table: the interpolation table's rule. Places: phase and start of a lag, and what they read.
--- Samples: what a sample is made of. Predicted: what a prediction gives.
+-- Table: the interpolation table's rule. Places: phase and start of a lag, and what they read. Taps: the rows of the three phases.
+-- Samples: what a sample is made of. Quiet: numbers that are not large. Sums: sums that no step clamps. Predicted: what a prediction gives.
 pub mod Table
 pub mod Places
+pub mod Taps
 pub mod Samples
+pub mod Quiet
+pub mod Sums
 pub mod Predicted

@@ -1,1 +1,2 @@
 pub mod Predict
+pub mod Plain

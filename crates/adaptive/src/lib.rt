@@ -1,11 +1,13 @@
 // The adaptive codebook: Pred_lt_3or6 of TS 26.073, in thirds.
 ghost use mathlib.Core.Path.{_≡_};
-ghost use Prim.Native.Nat.{_+_, _<_, _≤_};
-ghost use lib.IntN.{pos};
+ghost use mathlib.Core.Bool.{false};
+ghost use mathlib.Core.List.{_++_};
+ghost use Prim.Native.Nat.{_+_, _*_, _<_, _≤_};
+ghost use lib.IntN.{pos, _*ℤ_};
 ghost use lib.ListN.{take};
-ghost use Rattle.lists.specs.Lists.{at, tab};
 ghost use Rattle.pitch.specs.Lag.{lagOf};
-ghost use Rattle.adaptive.specs.Predict.{inter6, phase, start, coefficient, interpolated, extended, predicted};
+ghost use Rattle.adaptive.specs.Predict.{inter6, phase, start, interpolated, extended, predicted};
+ghost use Rattle.adaptive.specs.Plain.{tap, row, rows, leftOf, rightOf, summed, Light, large, loud, Quiet};
 use pitch::Fraction;
 use pitch::PitchLag;
 
@@ -100,29 +102,100 @@ fn start_of(lag: PitchLag) -> usize
     }
 }
 
-// One side of the filter: ten coefficients, every sixth one of the table.
-fn side(table: &[i16; 61], first: usize) -> [i16; 10]
-    requires { ⌜ (now table ≡ inter6) × (first ≤ 6) ⌝ }
-    ensures { λ r. ⌜ r ≡ tab (coefficient (pos first)) 10 ⌝ }
+// Tap `j` of a phase, in the order of the samples: ten to the left, from the furthest on, and ten to the right.
+fn tap(table: &[i16; 61], phase: usize, j: usize) -> i16
+    requires { ⌜ (now table ≡ inter6) × ((phase ≤ 6) × (j < 20)) ⌝ }
+    ensures { λ r. ⌜ r ≡ tap phase j ⌝ }
 {
-    let mut taps: [i16; 10] = [0; 10];
-    for k in 0..10 {
-        taps[k] = table[first + 6 * k];
+    if j < 10 {
+        return table[phase + 6 * (9 - j)];
     }
-    taps
+    table[6 - phase + 6 * (j - 10)]
 }
 
-// One sample: the ten of `x` at `first` and before it by the left coefficients, the ten after it by the right ones.
-fn sample(x: &[i16; 194], first: usize, left: &[i16; 10], right: &[i16; 10]) -> i16
-    requires { ⌜ (9 ≤ first) × (first + 10 < 194) ⌝ }
-    ensures { λ r. ⌜ r ≡ interpolated (now (x .entry)) (pos first) (at (now (left .entry))) (at (now (right .entry))) ⌝ }
+// The taps, with the twenty of a phase put in from place 10 * phase on.
+fn with_row(taps: [i16; 60], table: &[i16; 61], phase: usize) -> [i16; 60]
+    requires { ⌜ (now table ≡ inter6) × (phase ≤ 4) ⌝ }
+    ensures { λ r. ⌜ take (10 * phase + 20) r ≡ take (10 * phase) taps ++ row phase ⌝ }
+{
+    let mut out = taps;
+    for j in 0..20 {
+        out[10 * phase + j] = tap(table, phase, j);
+    }
+    out
+}
+
+// The taps of the three phases. They are constants: the compiler works them out.
+fn rows() -> [i16; 60]
+    ensures { λ r. ⌜ r ≡ rows ⌝ }
+{
+    let table = COEFFICIENTS;
+    let zero = with_row([0; 60], &table, 0);
+    let two = with_row(zero, &table, 2);
+    with_row(two, &table, 4)
+}
+
+// Outside -16384..=16383.
+fn large(x: i16) -> bool
+    ensures { λ r. ⌜ r ≡ large x ⌝ }
+{
+    (x < -16384) | (16383 < x)
+}
+
+// A number of the history is large.
+fn loud(history: [i16; 154]) -> bool
+    ensures { λ r. ⌜ r ≡ loud history ⌝ }
+{
+    let mut any = false;
+    for i in 0..154 {
+        any = any | large(history[i]);
+    }
+    any
+}
+
+fn product(x: i16, c: i16) -> i32
+    ensures { λ r. ⌜ r ≡ x *ℤ c ⌝ }
+{
+    (x as i32) * (c as i32)
+}
+
+// The sum of twenty products, doubled. No number that it reads is large, so that no L_mac could clamp.
+fn plain(x: &[i16; 194], first: usize, taps: &[i16; 60], row: usize) -> i32
+    requires places { ⌜ (9 ≤ first) × ((first + 10 < 194) × (row + 20 ≤ 60)) ⌝ }
+    requires sizes { ⌜ Light (now taps) row × Quiet (first + 11) (now x) ⌝ }
+    ensures { λ r. ⌜ r ≡ summed (now (x .entry)) first (now (taps .entry)) row ⌝ }
+{
+    let mut sum = 0;
+    for k in 0..10 {
+        sum = sum + product(x[first - k], taps[row + 9 - k]);
+        sum = sum + product(x[first + 1 + k], taps[row + 10 + k]);
+    }
+    2 * sum
+}
+
+// The same of any numbers, by clamped steps.
+fn clamped(x: &[i16; 194], first: usize, taps: &[i16; 60], row: usize) -> i32
+    requires { ⌜ (9 ≤ first) × ((first + 10 < 194) × (row + 20 ≤ 60)) ⌝ }
+    ensures { λ r. ⌜ r ≡ summed (now (x .entry)) first (now (taps .entry)) row ⌝ }
 {
     let mut sum = 0;
     for i in 0..10 {
-        sum = basicop::l_mac(sum, x[first - i], left[i]);
-        sum = basicop::l_mac(sum, x[first + 1 + i], right[i]);
+        sum = basicop::l_mac(sum, x[first - i], taps[row + 9 - i]);
+        sum = basicop::l_mac(sum, x[first + 1 + i], taps[row + 10 + i]);
     }
-    basicop::round(sum)
+    sum
+}
+
+// One sample: the ten of `x` at `first` and before it by the left taps of the row, the ten after it by the right ones.
+fn sample(x: &[i16; 194], first: usize, taps: &[i16; 60], row: usize, loud: bool) -> i16
+    requires places { ⌜ (9 ≤ first) × ((first + 10 < 194) × (row + 20 ≤ 60)) ⌝ }
+    requires sizes { ⌜ Light (now taps) row × (loud ≡ false → Quiet (first + 11) (now x)) ⌝ }
+    ensures { λ r. ⌜ r ≡ interpolated (now (x .entry)) (pos first) (leftOf (now (taps .entry)) row) (rightOf (now (taps .entry)) row) ⌝ }
+{
+    if loud {
+        return basicop::round(clamped(x, first, taps, row));
+    }
+    basicop::round(plain(x, first, taps, row))
 }
 
 // The history, with room for forty samples after it.
@@ -141,14 +214,15 @@ fn extended(history: [i16; 154], lag: PitchLag) -> [i16; 194]
     requires { ⌜ (19 ≤ lag .samples) × (lag .samples ≤ 144) ⌝ }
     ensures { λ r. ⌜ r ≡ extended history (lagOf lag) ⌝ }
 {
-    let table = COEFFICIENTS;
+    let taps = rows();
     let phase = phase_of(lag);
-    let left = side(&table, phase);
-    let right = side(&table, 6 - phase);
     let start = start_of(lag);
     let mut buffer = opened(history);
+    let mut any = loud(history);
     for n in 0..40 {
-        buffer[154 + n] = sample(&buffer, start + n, &left, &right);
+        let y = sample(&buffer, start + n, &taps, 10 * phase, any);
+        buffer[154 + n] = y;
+        any = any | large(y);
     }
     buffer
 }

@@ -1,0 +1,11 @@
+use mir.Facts.{toZ-ofZ}
+use Rattle.adaptive.specs.Plain.{large}
+use Rattle.adaptive.proofs.large.Statement.{statement}
+use Rattle.adaptive.proofs.large.Tie as tie
+
+returns : tie.Need-returns
+unfolding large
+returns c = rw (toZ-ofZ (c .fits .x))
+
+pub large-spec : {M : Type 1} → statement M
+large-spec = tie.close (tie.spec returns)

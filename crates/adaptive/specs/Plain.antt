@@ -1,0 +1,55 @@
+-- What the plain sums of the code rest on: the taps in the order of the samples, the sizes of a filter's coefficients, and which numbers are large.
+use mathlib.Core.Path.{_≡_}
+use mathlib.Core.Bool.{Bool, false, cond, _||_}
+use mathlib.Core.List.{List, _++_, foldl}
+use Prim.Native.Nat.{ℕ, _+_, _-_, _<_}
+use lib.Dec.{ltb}
+use lib.IntN.{ℤ, pos, natAbs, _-ℤ_}
+use lib.Signed.{ltZ}
+use Rattle.lists.specs.Lists.{minus, at, iter, tab}
+use Rattle.adaptive.specs.Predict.{coefficient, turn}
+
+-- tap j of phase f: ten to the left, from the furthest on, and ten to the right
+abbrev pub tap : ℕ → ℕ → ℤ
+tap f j = cond (ltb j 10) (coefficient (pos f) (9 - j)) (coefficient (pos 6 -ℤ pos f) (j - 10))
+
+abbrev pub row : ℕ → List ℤ
+row f = tab (tap f) 20
+
+-- the rows of the phases 0, 2 and 4: that of phase f starts at 10 f
+unfoldable pub rows : List ℤ
+rows = (row 0 ++ row 2) ++ row 4
+
+-- coefficient i of each side, of the row that starts at n
+abbrev pub leftOf : List ℤ → ℕ → ℕ → ℤ
+leftOf taps n i = at taps (n + 9 - i)
+
+abbrev pub rightOf : List ℤ → ℕ → ℕ → ℤ
+rightOf taps n i = at taps (n + 10 + i)
+
+-- the sum of the ten turns about place p with that row, which `interpolated` rounds
+abbrev pub summed : List ℤ → ℕ → List ℤ → ℕ → ℤ
+summed x p taps n = iter (turn x (pos p) (leftOf taps n) (rightOf taps n)) 10 (pos 0)
+
+-- the sum of the sizes of the first n coefficients of both sides
+abbrev pub sizes : (ℕ → ℤ) → (ℕ → ℤ) → ℕ → ℕ
+sizes c d n = iter (λ (i s : ℕ). s + natAbs (c i) + natAbs (d i)) n 0
+
+-- the row that starts at n is light: the sizes of its twenty taps come to less than 65536
+abbrev pub Light : List ℤ → ℕ → Type 0
+Light taps n = sizes (leftOf taps n) (rightOf taps n) 10 < 65536
+
+abbrev pub limit : ℕ
+limit = 16384
+
+-- outside -16384..=16383
+unfoldable pub large : ℤ → Bool
+large x = ltZ x (minus limit) || ltZ (pos (limit - 1)) x
+
+-- some number is large
+unfoldable pub loud : List ℤ → Bool
+loud xs = foldl (λ (b : Bool) (x : ℤ). b || large x) false xs
+
+-- none of the first n is
+abbrev pub Quiet : ℕ → List ℤ → Type 0
+Quiet n xs = (i : ℕ) → i < n → large (at xs i) ≡ false
