@@ -1,18 +1,22 @@
--- What the plain sums of the code rest on: the taps in the order of the samples, the sizes of a filter's coefficients, and which numbers are large.
+-- What the code's plain sums rest on: taps in the order of the samples, the sizes of a row's taps, and which numbers are large.
+-- A light row over numbers that are not large comes to at most 2 × 16384 × 65535, which is below 2 ^ 31: no L_mac clamps.
 use mathlib.Core.Path.{_≡_}
 use mathlib.Core.Bool.{Bool, false, cond, _||_}
 use mathlib.Core.List.{List, _++_, foldl}
 use Prim.Native.Nat.{ℕ, _+_, _-_, _<_}
 use lib.Dec.{ltb}
-use lib.IntN.{ℤ, pos, natAbs, _-ℤ_}
+use lib.IntN.{ℤ, pos, natAbs, _+ℤ_, _-ℤ_, _*ℤ_}
 use lib.Signed.{ltZ}
+use mir.Syntax.{w32}
+use mir.Val.{SFits}
 use Rattle.lists.specs.Lists.{minus, at, iter, tab}
-use Rattle.adaptive.specs.Predict.{coefficient, turn}
+use Rattle.adaptive.specs.Predict.{coefficient}
 
 -- tap j of phase f: ten to the left, from the furthest on, and ten to the right
 abbrev pub tap : ℕ → ℕ → ℤ
 tap f j = cond (ltb j 10) (coefficient (pos f) (9 - j)) (coefficient (pos 6 -ℤ pos f) (j - 10))
 
+-- all twenty
 abbrev pub row : ℕ → List ℤ
 row f = tab (tap f) 20
 
@@ -27,22 +31,23 @@ leftOf taps n i = at taps (n + 9 - i)
 abbrev pub rightOf : List ℤ → ℕ → ℕ → ℤ
 rightOf taps n i = at taps (n + 10 + i)
 
--- the sum of the ten turns about place p with that row, which `interpolated` rounds
-abbrev pub summed : List ℤ → ℕ → List ℤ → ℕ → ℤ
-summed x p taps n = iter (turn x (pos p) (leftOf taps n) (rightOf taps n)) 10 (pos 0)
-
 -- the sum of the sizes of the first n coefficients of both sides
 abbrev pub sizes : (ℕ → ℤ) → (ℕ → ℤ) → ℕ → ℕ
 sizes c d n = iter (λ (i s : ℕ). s + natAbs (c i) + natAbs (d i)) n 0
 
--- the row that starts at n is light: the sizes of its twenty taps come to less than 65536
+-- the row that starts at n is light
 abbrev pub Light : List ℤ → ℕ → Type 0
 Light taps n = sizes (leftOf taps n) (rightOf taps n) 10 < 65536
+
+-- no step of L_mac(s, a, b) clamps
+pub record Unclamped (s a b : ℤ) : Type 0 where
+  pub product : SFits w32 (pos 2 *ℤ (a *ℤ b))
+  pub sum : SFits w32 (s +ℤ pos 2 *ℤ (a *ℤ b))
 
 abbrev pub limit : ℕ
 limit = 16384
 
--- outside -16384..=16383
+-- below -limit, or at limit or above
 unfoldable pub large : ℤ → Bool
 large x = ltZ x (minus limit) || ltZ (pos (limit - 1)) x
 

@@ -3,11 +3,12 @@ ghost use mathlib.Core.Path.{_≡_};
 ghost use mathlib.Core.Bool.{false};
 ghost use mathlib.Core.List.{_++_};
 ghost use Prim.Native.Nat.{_+_, _*_, _<_, _≤_};
-ghost use lib.IntN.{pos, _*ℤ_};
+ghost use lib.IntN.{pos};
 ghost use lib.ListN.{take};
+ghost use Rattle.basicop.specs.Ops.{L-mac};
 ghost use Rattle.pitch.specs.Lag.{lagOf};
 ghost use Rattle.adaptive.specs.Predict.{inter6, phase, start, interpolated, extended, predicted};
-ghost use Rattle.adaptive.specs.Plain.{tap, row, rows, leftOf, rightOf, summed, Light, large, loud, Quiet};
+ghost use Rattle.adaptive.specs.Plain.{tap, row, rows, leftOf, rightOf, Light, Unclamped, large, loud, Quiet};
 use pitch::Fraction;
 use pitch::PitchLag;
 
@@ -125,7 +126,7 @@ fn with_row(taps: [i16; 60], table: &[i16; 61], phase: usize) -> [i16; 60]
     out
 }
 
-// The taps of the three phases. They are constants: the compiler works them out.
+// The taps of the three phases: constants, which the compiler works out.
 fn rows() -> [i16; 60]
     ensures { λ r. ⌜ r ≡ rows ⌝ }
 {
@@ -153,49 +154,29 @@ fn loud(history: [i16; 154]) -> bool
     any
 }
 
-fn product(x: i16, c: i16) -> i32
-    ensures { λ r. ⌜ r ≡ x *ℤ c ⌝ }
+// L_mac, by a plain sum where `loud` is false: no step clamps then.
+fn mac(sum: i32, x: i16, c: i16, loud: bool) -> i32
+    requires { ⌜ (loud ≡ false → Unclamped sum x c) ⌝ }
+    ensures { λ r. ⌜ r ≡ L-mac sum x c ⌝ }
 {
-    (x as i32) * (c as i32)
-}
-
-// The sum of twenty products, doubled. No number that it reads is large, so that no L_mac could clamp.
-fn plain(x: &[i16; 194], first: usize, taps: &[i16; 60], row: usize) -> i32
-    requires places { ⌜ (9 ≤ first) × ((first + 10 < 194) × (row + 20 ≤ 60)) ⌝ }
-    requires sizes { ⌜ Light (now taps) row × Quiet (first + 11) (now x) ⌝ }
-    ensures { λ r. ⌜ r ≡ summed (now (x .entry)) first (now (taps .entry)) row ⌝ }
-{
-    let mut sum = 0;
-    for k in 0..10 {
-        sum = sum + product(x[first - k], taps[row + 9 - k]);
-        sum = sum + product(x[first + 1 + k], taps[row + 10 + k]);
+    if loud {
+        return basicop::l_mac(sum, x, c);
     }
-    2 * sum
-}
-
-// The same of any numbers, by clamped steps.
-fn clamped(x: &[i16; 194], first: usize, taps: &[i16; 60], row: usize) -> i32
-    requires { ⌜ (9 ≤ first) × ((first + 10 < 194) × (row + 20 ≤ 60)) ⌝ }
-    ensures { λ r. ⌜ r ≡ summed (now (x .entry)) first (now (taps .entry)) row ⌝ }
-{
-    let mut sum = 0;
-    for i in 0..10 {
-        sum = basicop::l_mac(sum, x[first - i], taps[row + 9 - i]);
-        sum = basicop::l_mac(sum, x[first + 1 + i], taps[row + 10 + i]);
-    }
-    sum
+    sum + 2 * ((x as i32) * (c as i32))
 }
 
 // One sample: the ten of `x` at `first` and before it by the left taps of the row, the ten after it by the right ones.
 fn sample(x: &[i16; 194], first: usize, taps: &[i16; 60], row: usize, loud: bool) -> i16
     requires places { ⌜ (9 ≤ first) × ((first + 10 < 194) × (row + 20 ≤ 60)) ⌝ }
-    requires sizes { ⌜ Light (now taps) row × (loud ≡ false → Quiet (first + 11) (now x)) ⌝ }
+    requires quiet { ⌜ Light (now taps) row × (loud ≡ false → Quiet (first + 11) (now x)) ⌝ }
     ensures { λ r. ⌜ r ≡ interpolated (now (x .entry)) (pos first) (leftOf (now (taps .entry)) row) (rightOf (now (taps .entry)) row) ⌝ }
 {
-    if loud {
-        return basicop::round(clamped(x, first, taps, row));
+    let mut sum = 0;
+    for i in 0..10 {
+        sum = mac(sum, x[first - i], taps[row + 9 - i], loud);
+        sum = mac(sum, x[first + 1 + i], taps[row + 10 + i], loud);
     }
-    basicop::round(plain(x, first, taps, row))
+    basicop::round(sum)
 }
 
 // The history, with room for forty samples after it.

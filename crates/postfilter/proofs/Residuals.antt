@@ -1,8 +1,7 @@
 -- The residual's sum of a row whose weight is below 32768: no step clamps. Assumes nothing.
-use Prim.Native.Nat.{ℕ, zero, suc, _+_, _*_, _-_, _≤_, _<_}
+use Prim.Native.Nat.{ℕ, _+_, _*_, _-_, _≤_, _<_}
 use mathlib.Core.Path.{_≡_, sym}
 use mathlib.Core.List.{List}
-use native.Mathlib.Nat.{zero-add, suc-add, le-refl}
 use native.Mathlib.Numerals.{add-one}
 use native.Mathlib.Omega.{arith}
 use lib.IntN.{ℤ, pos, natAbs, _+ℤ_, _*ℤ_, *ℤ-comm}
@@ -14,13 +13,8 @@ use Rattle.basicop.proofs.Ints.{eq-in, sfits-by, add-is, mul-is}
 use Rattle.basicop.proofs.Range.{natAbs-is, natAbs-add}
 use Rattle.basicop.proofs.Clamp.{clamp-id}
 use Rattle.synthesis.specs.Pass.{weight}
+use Rattle.synthesis.proofs.Taps.{weight-mono}
 use Rattle.postfilter.specs.Residual.{residualStep, residualSum}
-
--- the first coefficients weigh no more than all
-weight-mono : (a : List ℤ) (k i : ℕ) → weight a k ≤ weight a (i + k)
-unfolding weight
-weight-mono a k zero = rw (zero-add k) (le-refl (weight a k))
-weight-mono a k (suc i) = rw (suc-add i k) (omega (arith, weight-mono a k i))
 
 double-add : (s p : ℤ) → pos 2 *ℤ (s +ℤ p) ≡ pos 2 *ℤ s +ℤ pos 2 *ℤ p
 double-add s p = eq-in _ _ (omega (arith, mul-is (pos 2) (s +ℤ p), add-is s p, add-is (pos 2 *ℤ s) (pos 2 *ℤ p), mul-is (pos 2) s, mul-is (pos 2) p))

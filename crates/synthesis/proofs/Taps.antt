@@ -111,7 +111,8 @@ pub summed-done : {a : List ℤ} {x : ℤ} {y : List ℤ} {s : ℤ} {o : Bool} {
 summed-done r m e = record { flag = rw e at (r .flag); is = λ f. rw e at (r .is); size = r .size }
 
 -- ---- of a row whose weight is below 32768 no number up to the sum lies outside
-weight-mono : (a : List ℤ) (k i : ℕ) → weight a k ≤ weight a (i + k)
+-- the first coefficients weigh no more than all
+pub weight-mono : (a : List ℤ) (k i : ℕ) → weight a k ≤ weight a (i + k)
 unfolding weight
 weight-mono a k zero = rw (zero-add k) (le-refl (weight a k))
 weight-mono a k (suc i) = rw (suc-add i k) (omega (arith, weight-mono a k i))

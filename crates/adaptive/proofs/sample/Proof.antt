@@ -1,23 +1,85 @@
-use mathlib.Core.Path.{ap, _∙_}
+use mathlib.Core.Path.{_≡_, refl, ap, _∙_}
+use Prim.Native.Nat.{_≤_, _-_}
 use borrow.Author.Needs.{needs}
 use mir.Syntax.{w16, w32}
-use Rattle.lists.proofs.Signed.{got}
-use Rattle.basicop.specs.Ops.{round}
+use mir.Val.{toZ, ofZ}
+use Rattle.lists.specs.Lists.{at}
+use Rattle.lists.proofs.Signed.{back, got}
+use Rattle.lists.proofs.Count.{iter-done}
+use Rattle.basicop.specs.Ops.{L-mac, round}
+use Rattle.basicop.proofs.Calls.{L-mac-eq}
 use Rattle.adaptive.specs.Predict.{interpolated}
+use Rattle.adaptive.specs.Plain.{leftOf, rightOf}
+use Rattle.adaptive.proofs.Sums.{unclamped-eq, Summed, summed-none, first-plain, second-plain, summed-more}
 use Rattle.adaptive.proofs.sample.Statement.{statement}
 use Rattle.adaptive.proofs.sample.Tie as tie
 
-returns : tie.Need-returns
-unfolding interpolated
-returns c = got w16 (c .round .ok) (c .round .ensures ∙ ap round (got w32 (c .before .clamped .ok) (c .before .clamped .ensures)))
+abbrev Inv-loop : tie.InvT-loop
+Inv-loop x first taps row loud sum₀ i₀ sum i = (i ≤ 10) × Summed x first (leftOf taps row) (rightOf taps row) loud (toZ w32 sum) i
 
-plain-requires : tie.Need-plain-requires
-plain-requires c κs = let p = c .before .pre in (p .0, (p .1 .0, p .1 .1 (c .if1 .left)))
+abbrev μ-loop : tie.MeasureT-loop
+μ-loop x first taps row loud sum₀ i₀ sum i = 10 - i
 
-returns-2 : tie.Need-returns-2
+loop-holds : tie.Need-loop-holds Inv-loop μ-loop
+loop-holds c = (search needs, summed-none _ _ _ _ _ refl)
+
+mac-requires : tie.Need-mac-requires Inv-loop μ-loop
+mac-requires c κs q =
+    let l = c .before .before .before in
+    let s = l .before in
+    unclamped-eq (back w16 (c .before .mac-arg .given)) (back w16 (c .mac-arg2 .given)) (first-plain _ _ _ _ _ (s .pre .1 .0) (s .pre .1 .1) (search needs) (l .loop .inv .1) (search needs) q)
+
+-- the sum after the first step
+after-first : (c : tie.After-mac Inv-loop μ-loop) → toZ w32 (ofZ w32 (c .mac .result)) ≡ L-mac (toZ w32 (c .before .before .before .before .loop .sum)) (at (c .before .before .before .before .before .args .x .now) (c .before .before .before .before .before .args .first - c .before .before .before .before .loop .i)) (leftOf (c .before .before .before .before .before .args .taps .now) (c .before .before .before .before .before .args .row) (c .before .before .before .before .loop .i))
+after-first c = got w32 (c .mac .ok) (c .mac .ensures ∙ L-mac-eq refl (back w16 (c .before .before .mac-arg .given)) (back w16 (c .before .mac-arg2 .given)))
+
+mac-requires-2 : tie.Need-mac-requires-2 Inv-loop μ-loop
+mac-requires-2 c κs q =
+    let m = c .before .before in
+    let l = m .before .before .before .before in
+    let s = l .before in
+    unclamped-eq (back w16 (c .before .mac-arg3 .given)) (back w16 (c .mac-arg4 .given)) (second-plain _ _ _ _ _ (s .pre .1 .0) (s .pre .1 .1) (search needs) (l .loop .inv .1) (search needs) (after-first m) q)
+
+loop-again : tie.Need-loop-again Inv-loop μ-loop
+loop-again c =
+    let m = c .before .before .before in
+    let l = m .before .before .before .before in
+    let s = l .before in (
+      search needs,
+      summed-more _ _ _ _ _ (s .pre .1 .0) (s .pre .1 .1) (search needs) (l .loop .inv .1) (search needs) (after-first m)
+          (got w32 (c .mac2 .ok) (c .mac2 .ensures ∙ L-mac-eq refl (back w16 (c .before .before .mac-arg3 .given)) (back w16 (c .before .mac-arg4 .given)))),
+    )
+
+returns : tie.Need-returns Inv-loop μ-loop
 unfolding interpolated
-returns-2 c = got w16 (c .round2 .ok) (c .round2 .ensures ∙ ap round (got w32 (c .before .plain .ok) (c .before .plain .ensures)))
+returns c = got w16 (c .round .ok) (c .round .ensures ∙ ap round (iter-done (c .before .before .loop .inv .1 .run) 10 (search needs)))
 
 pub sample-spec : {M : Type 1} → statement M
 sample-spec =
-    tie.close (tie.spec (λ c κs. search needs) (λ c κs. search needs) returns plain-requires (λ c κs. search needs) returns-2)
+    tie.close
+    (tie.spec
+    Inv-loop
+    μ-loop
+    loop-holds
+    (λ c. search needs)
+    (λ c. search needs)
+    (λ c. search needs)
+    (λ c. search needs)
+    (λ c. search needs)
+    (λ c. search needs)
+    (λ c. search needs)
+    mac-requires
+    (λ c. search needs)
+    (λ c. search needs)
+    (λ c. search needs)
+    (λ c. search needs)
+    (λ c. search needs)
+    (λ c. search needs)
+    (λ c. search needs)
+    (λ c. search needs)
+    mac-requires-2
+    (λ c. search needs)
+    (λ c. search needs)
+    loop-again
+    (λ c κs. search needs)
+    returns)
