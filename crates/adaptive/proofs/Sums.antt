@@ -7,38 +7,28 @@ use Prim.Native.Nat.{ℕ, zero, suc, _+_, _-_, _*_, _<_, _≤_}
 use native.Mathlib.Nat.{le-refl, le-of-suc-le-suc, eq-or-lt-of-le}
 use native.Mathlib.Numerals.{add-one}
 use native.Mathlib.Omega.{arith}
-use lib.IntN.{ℤ, pos, natAbs, _+ℤ_, _*ℤ_}
-use mir.Syntax.{w32}
+use lib.IntN.{ℤ, pos, natAbs, _*ℤ_}
 use Rattle.lists.specs.Lists.{at, iter}
 use Rattle.lists.proofs.Count.{Iter, iter-none, iter-more}
-use Rattle.basicop.specs.Ops.{L-add, L-mult, L-mac}
-use Rattle.basicop.proofs.Ints.{sfits-by}
-use Rattle.basicop.proofs.Range.{natAbs-is, natAbs-add, mul-bound}
-use Rattle.basicop.proofs.Clamp.{clamp-id}
+use Rattle.basicop.specs.Ops.{L-mac}
+use Rattle.basicop.specs.Unclamped.{Unclamped}
+use Rattle.basicop.proofs.Range.{mul-bound}
+use Rattle.basicop.proofs.Unclamped.{unclamped-by, sum-size}
 use Rattle.adaptive.specs.Predict.{turn}
-use Rattle.adaptive.specs.Plain.{sizes, Unclamped, limit, Quiet}
+use Rattle.adaptive.specs.Plain.{sizes, limit, Quiet}
 use Rattle.adaptive.proofs.Quiet.{large-no}
 use Rattle.adaptive.proofs.Samples.{turn-at}
-
-pub unclamped-is : {s a b : ℤ} → Unclamped s a b → s +ℤ pos 2 *ℤ (a *ℤ b) ≡ L-mac s a b
-unfolding L-add L-mult
-unclamped-is u = rw (clamp-id w32 _ (u .product), clamp-id w32 _ (u .sum))
-
-pub unclamped-eq : {s a a′ b b′ : ℤ} → a ≡ a′ → b ≡ b′ → Unclamped s a′ b′ → Unclamped s a b
-unclamped-eq e f u = rw (e, f) u
 
 -- ---- one step, with a number a that is not large; k bounds the sizes of the coefficients before b
 record Step (s a b : ℤ) (k : ℕ) : Type 0 where
   plain : Unclamped s a b
-  size : natAbs (L-mac s a b) ≤ 2 * limit * (k + natAbs b)
+  size : natAbs (L-mac s a b) ≤ 2 * (limit * (k + natAbs b))
 
-step : (s a b : ℤ) (k : ℕ) → natAbs s ≤ 2 * limit * k → natAbs a ≤ limit → k + natAbs b < 65536 → Step s a b k
+step : (s a b : ℤ) (k : ℕ) → natAbs s ≤ 2 * (limit * k) → natAbs a ≤ limit → k + natAbs b < 65536 → Step s a b k
 step s a b k hs ha hk =
-    let p = pos 2 *ℤ (a *ℤ b) in
-    let one : natAbs p ≤ 2 * (limit * natAbs b) = mul-bound (pos 2) (a *ℤ b) (le-refl 2) (mul-bound a b ha (le-refl (natAbs b))) in
-    let all : natAbs (s +ℤ p) ≤ 2 * limit * (k + natAbs b) = omega (arith, natAbs-add s p) in
-    let u : Unclamped s a b = record { product = sfits-by (omega (arith, natAbs-is p)); sum = sfits-by (omega (arith, natAbs-is (s +ℤ p))) } in
-    record { plain = u; size = rw (← unclamped-is u) all }
+    let hp : natAbs (a *ℤ b) ≤ limit * natAbs b = mul-bound a b ha (le-refl (natAbs b)) in
+    let h : limit * k + limit * natAbs b < 1073741824 = omega arith in
+    record { plain = unclamped-by s a b (limit * k) (limit * natAbs b) hs hp h; size = omega (arith, sum-size s a b (limit * k) (limit * natAbs b) hs hp h) }
 
 -- ---- the sum after n turns
 sizes-more : (c d : ℕ → ℤ) (m n : ℕ) → m ≤ n → sizes c d m ≤ sizes c d n
@@ -53,7 +43,7 @@ sizes-more c d m (suc n) h =
 module _ (x : List ℤ) (p : ℕ) (c d : ℕ → ℤ) (loud : Bool) where
   pub record Summed (s : ℤ) (n : ℕ) : Type 0 where
     pub run : Iter (turn x (pos p) c d) (pos 0) s n
-    pub size : loud ≡ false → natAbs s ≤ 2 * limit * sizes c d n
+    pub size : loud ≡ false → natAbs s ≤ 2 * (limit * sizes c d n)
 
   pub summed-none : {s : ℤ} → s ≡ pos 0 → Summed s 0
   unfolding iter

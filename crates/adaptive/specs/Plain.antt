@@ -5,10 +5,8 @@ use mathlib.Core.Bool.{Bool, false, cond, _||_}
 use mathlib.Core.List.{List, _++_, foldl}
 use Prim.Native.Nat.{ℕ, _+_, _-_, _<_}
 use lib.Dec.{ltb}
-use lib.IntN.{ℤ, pos, natAbs, _+ℤ_, _-ℤ_, _*ℤ_}
+use lib.IntN.{ℤ, pos, natAbs, _-ℤ_}
 use lib.Signed.{ltZ}
-use mir.Syntax.{w32}
-use mir.Val.{SFits}
 use Rattle.lists.specs.Lists.{minus, at, iter, tab}
 use Rattle.adaptive.specs.Predict.{coefficient}
 
@@ -38,11 +36,6 @@ sizes c d n = iter (λ (i s : ℕ). s + natAbs (c i) + natAbs (d i)) n 0
 -- the row that starts at n is light
 abbrev pub Light : List ℤ → ℕ → Type 0
 Light taps n = sizes (leftOf taps n) (rightOf taps n) 10 < 65536
-
--- no step of L_mac(s, a, b) clamps
-pub record Unclamped (s a b : ℤ) : Type 0 where
-  pub product : SFits w32 (pos 2 *ℤ (a *ℤ b))
-  pub sum : SFits w32 (s +ℤ pos 2 *ℤ (a *ℤ b))
 
 abbrev pub limit : ℕ
 limit = 16384

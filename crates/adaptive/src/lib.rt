@@ -5,10 +5,9 @@ ghost use mathlib.Core.List.{_++_};
 ghost use Prim.Native.Nat.{_+_, _*_, _<_, _≤_};
 ghost use lib.IntN.{pos};
 ghost use lib.ListN.{take};
-ghost use Rattle.basicop.specs.Ops.{L-mac};
 ghost use Rattle.pitch.specs.Lag.{lagOf};
 ghost use Rattle.adaptive.specs.Predict.{inter6, phase, start, interpolated, extended, predicted};
-ghost use Rattle.adaptive.specs.Plain.{tap, row, rows, leftOf, rightOf, Light, Unclamped, large, loud, Quiet};
+ghost use Rattle.adaptive.specs.Plain.{tap, row, rows, leftOf, rightOf, Light, large, loud, Quiet};
 use pitch::Fraction;
 use pitch::PitchLag;
 
@@ -154,17 +153,6 @@ fn loud(history: [i16; 154]) -> bool
     any
 }
 
-// L_mac, by a plain sum where `loud` is false: no step clamps then.
-fn mac(sum: i32, x: i16, c: i16, loud: bool) -> i32
-    requires { ⌜ (loud ≡ false → Unclamped sum x c) ⌝ }
-    ensures { λ r. ⌜ r ≡ L-mac sum x c ⌝ }
-{
-    if loud {
-        return basicop::l_mac(sum, x, c);
-    }
-    sum + 2 * ((x as i32) * (c as i32))
-}
-
 // One sample: the ten of `x` at `first` and before it by the left taps of the row, the ten after it by the right ones.
 fn sample(x: &[i16; 194], first: usize, taps: &[i16; 60], row: usize, loud: bool) -> i16
     requires places { ⌜ (9 ≤ first) × ((first + 10 < 194) × (row + 20 ≤ 60)) ⌝ }
@@ -173,8 +161,8 @@ fn sample(x: &[i16; 194], first: usize, taps: &[i16; 60], row: usize, loud: bool
 {
     let mut sum = 0;
     for i in 0..10 {
-        sum = mac(sum, x[first - i], taps[row + 9 - i], loud);
-        sum = mac(sum, x[first + 1 + i], taps[row + 10 + i], loud);
+        sum = basicop::mac(sum, x[first - i], taps[row + 9 - i], loud);
+        sum = basicop::mac(sum, x[first + 1 + i], taps[row + 10 + i], loud);
     }
     basicop::round(sum)
 }

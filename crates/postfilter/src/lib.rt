@@ -1,8 +1,8 @@
 // The postfilter: Post_Filter of TS 26.073, with Weight_Ai, Residu and preemphasis.
 ghost use mathlib.Core.Path.{_≡_};
+ghost use mathlib.Core.Bool.{false};
 ghost use mathlib.Core.List.{_++_};
 ghost use Prim.Native.Nat.{_+_, _*_, _<_, _≤_};
-ghost use lib.Dec.{ltb};
 ghost use lib.IntN.{pos};
 ghost use lib.ListN.{length, take, replicate};
 ghost use Rattle.lists.specs.Lists.{at};
@@ -17,13 +17,13 @@ use basicop::extract_h;
 use basicop::l_mac;
 use basicop::l_mult;
 use basicop::l_shl;
+use basicop::mac;
 use basicop::mult;
 use basicop::round;
 use basicop::sub;
 use energy::GainControl;
 use lpc::Rows;
 use synthesis::light;
-use synthesis::product;
 
 // What a subframe leaves to the next: its last ten inputs, the last ten samples of its second synthesis, its last residual, and the smoothed gain.
 pub struct Postfilter {
@@ -86,49 +86,26 @@ fn joined(opened: [i16; 50], samples: [i16; 40]) -> [i16; 50]
     r
 }
 
-// The sum for the input at a place, by clamped steps.
-fn residual_sum(a: &[i16; 11], x: &[i16; 50], place: usize) -> i32
-    requires { ⌜ (10 ≤ place) × (place < 50) ⌝ }
+// The sum for the input at a place. Where the weight of the row, |a0| + .. + |a10|, is below 32768 no step can clamp.
+fn residual_sum(a: &[i16; 11], x: &[i16; 50], place: usize, clamped: bool) -> i32
+    requires { ⌜ (10 ≤ place) × ((place < 50) × (clamped ≡ false → weight (now a) 10 < 32768)) ⌝ }
     ensures { λ r. ⌜ r ≡ residualSum (now (a .entry)) (now (x .entry)) place ⌝ }
 {
     let mut s = l_mult(x[place], a[0]);
     for j in 0..10 {
-        s = l_mac(s, a[j + 1], x[place - (j + 1)]);
+        s = mac(s, a[j + 1], x[place - (j + 1)], clamped);
     }
     s
-}
-
-// The same of a row whose weight, |a0| + .. + |a10|, is below 32768: no step can clamp, and half the sum is added up.
-fn plain_sum(a: &[i16; 11], x: &[i16; 50], place: usize) -> i32
-    requires { ⌜ (10 ≤ place) × ((place < 50) × (weight (now a) 10 < 32768)) ⌝ }
-    ensures { λ r. ⌜ r ≡ residualSum (now (a .entry)) (now (x .entry)) place ⌝ }
-{
-    let mut s = product(a[0], x[place]);
-    for j in 0..10 {
-        s = s + product(a[j + 1], x[place - (j + 1)]);
-    }
-    2 * s
-}
-
-// The one or the other.
-fn summed(a: &[i16; 11], x: &[i16; 50], place: usize, light: bool) -> i32
-    requires { ⌜ (10 ≤ place) × ((place < 50) × (light ≡ ltb (weight (now a) 10) 32768)) ⌝ }
-    ensures { λ r. ⌜ r ≡ residualSum (now (a .entry)) (now (x .entry)) place ⌝ }
-{
-    if light {
-        return plain_sum(a, x, place);
-    }
-    residual_sum(a, x, place)
 }
 
 fn residual(numerator: [i16; 11], history: [i16; 10], samples: [i16; 40]) -> [i16; 40]
     ensures { λ r. ⌜ r ≡ residual numerator (history ++ samples) ⌝ }
 {
-    let quick = light(&numerator);
+    let clamped = !light(&numerator);
     let x = joined(opened(history), samples);
     let mut r = [0i16; 40];
     for n in 0..40 {
-        r[n] = round(l_shl(summed(&numerator, &x, n + 10, quick), 3));
+        r[n] = round(l_shl(residual_sum(&numerator, &x, n + 10, clamped), 3));
     }
     r
 }

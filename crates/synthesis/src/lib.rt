@@ -165,7 +165,7 @@ fn tested(a: &[i16; 11], x: i16, buf: &[i16; 50], at: usize) -> Sum
     Sum { half: s, out }
 }
 
-pub fn product(a: i16, y: i16) -> i32
+fn product(a: i16, y: i16) -> i32
     ensures { λ r. ⌜ (r ≡ a *ℤ y) × (natAbs r ≤ natAbs a * 32768) ⌝ }
 {
     (a as i32) * (y as i32)

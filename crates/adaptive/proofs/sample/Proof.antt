@@ -10,7 +10,8 @@ use Rattle.basicop.specs.Ops.{L-mac, round}
 use Rattle.basicop.proofs.Calls.{L-mac-eq}
 use Rattle.adaptive.specs.Predict.{interpolated}
 use Rattle.adaptive.specs.Plain.{leftOf, rightOf}
-use Rattle.adaptive.proofs.Sums.{unclamped-eq, Summed, summed-none, first-plain, second-plain, summed-more}
+use Rattle.basicop.proofs.Unclamped.{unclamped-eq}
+use Rattle.adaptive.proofs.Sums.{Summed, summed-none, first-plain, second-plain, summed-more}
 use Rattle.adaptive.proofs.sample.Statement.{statement}
 use Rattle.adaptive.proofs.sample.Tie as tie
 

@@ -1,6 +1,7 @@
-use mathlib.Core.Path.{_≡_, _∙_}
+use mathlib.Core.Path.{_≡_, sym, _∙_}
 use Prim.Native.Nat.{ℕ, _+_, _≤_, _-_}
 use borrow.Author.Needs.{needs}
+use borrow.Author.Tests.{ltb-true, not-false}
 use mir.Syntax.{w16, w32}
 use mir.Val.{toZ, ofZ}
 use Rattle.lists.proofs.Signed.{got}
@@ -11,14 +12,19 @@ use Rattle.postfilter.proofs.residual.Statement.{statement}
 use Rattle.postfilter.proofs.residual.Tie as tie
 
 abbrev Inv-loop : tie.InvT-loop
-Inv-loop numerator quick x r₀ n₀ r n = (n ≤ 40) × Filled 40 40 (residual numerator x) r n
+Inv-loop numerator clamped x r₀ n₀ r n = (n ≤ 40) × Filled 40 40 (residual numerator x) r n
 
 abbrev μ-loop : tie.MeasureT-loop
-μ-loop numerator quick x r₀ n₀ r n = 40 - n
+μ-loop numerator clamped x r₀ n₀ r n = 40 - n
 
 loop-holds : tie.Need-loop-holds Inv-loop μ-loop
 unfolding residual
 loop-holds c = (search needs, fill-none (length-tab _ 40) (search needs))
+
+residual-sum-requires : tie.Need-residual-sum-requires Inv-loop μ-loop
+residual-sum-requires c κs =
+    let l = c .before .before .before in
+    (search needs, (search needs, λ q. ltb-true _ 32768 (sym (l .before .before .before .light .ensures) ∙ not-false _ q)))
 
 loop-again : tie.Need-loop-again Inv-loop μ-loop
 unfolding residual
@@ -27,7 +33,7 @@ loop-again c =
     let l = m .before .before .before .before in
     let x = l .before .joined .result in
     let a = l .before .before .before .before .before .args .t1 in
-    let e : toZ w16 (ofZ w16 (c .round .result)) ≡ residualAt a x (l .loop .n + 10) = cc (got w16 (c .round .ok) (c .round .ensures), got w32 (c .before .l-shl .ok) (c .before .l-shl .ensures), got w32 (m .summed .ok) (m .summed .ensures)) in
+    let e : toZ w16 (ofZ w16 (c .round .result)) ≡ residualAt a x (l .loop .n + 10) = cc (got w16 (c .round .ok) (c .round .ensures), got w32 (c .before .l-shl .ok) (c .before .l-shl .ensures), got w32 (m .residual-sum .ok) (m .residual-sum .ensures)) in
     (search needs, fill-more (l .loop .inv .1) (e ∙ at-tab (λ (n : ℕ). residualAt a x (n + 10)) 40 (l .loop .n) (search needs)) (search needs) (search needs))
 
 returns : tie.Need-returns Inv-loop μ-loop
@@ -46,7 +52,7 @@ residual-spec =
     (λ c κs. search needs)
     loop-holds
     (λ c. search needs)
-    (λ c κs. search needs)
+    residual-sum-requires
     (λ c κs. search needs)
     (λ c κs. search needs)
     (λ c. search needs)
