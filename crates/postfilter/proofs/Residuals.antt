@@ -1,19 +1,19 @@
 -- The residual's sum: where the row's weight is below 32768 no step clamps. Assumes nothing.
 use Prim.Native.Nat.{ℕ, _+_, _*_, _-_, _^_, _≤_, _<_}
-use mathlib.Core.Path.{_≡_}
+use mathlib.Core.Path.{_≡_, _∙_}
 use mathlib.Core.Bool.{Bool, false}
 use mathlib.Core.List.{List}
 use native.Mathlib.Nat.{le-refl}
 use native.Mathlib.Numerals.{add-one}
 use native.Mathlib.Omega.{arith}
-use lib.IntN.{ℤ, natAbs, _*ℤ_}
+use lib.IntN.{ℤ, pos, natAbs, _*ℤ_}
 use lib.Signed.{mag}
 use Rattle.lists.specs.Lists.{at}
 use Rattle.lists.proofs.Count.{Iter, iter-none, iter-more}
 use Rattle.basicop.specs.Ops.{L-mult, L-mac}
 use Rattle.basicop.specs.Unclamped.{Unclamped}
 use Rattle.basicop.proofs.Range.{natAbs-in, mul-bound}
-use Rattle.basicop.proofs.Unclamped.{product-size, unclamped-by, sum-size}
+use Rattle.basicop.proofs.Unclamped.{mac-first, unclamped-by, sum-size}
 use Rattle.synthesis.specs.Pass.{weight}
 use Rattle.synthesis.proofs.Taps.{weight-mono}
 use Rattle.postfilter.specs.Residual.{residualStep}
@@ -23,10 +23,25 @@ pub record Summed (a x : List ℤ) (p : ℕ) (clamped : Bool) (s : ℤ) (j : ℕ
   pub run : Iter (residualStep a x p) (L-mult (at x p) (at a 0)) s j
   pub size : clamped ≡ false → natAbs s ≤ 2 * (32768 * weight a j)
 
-module _ {a x : List ℤ} {p : ℕ} {clamped : Bool} (light : clamped ≡ false → weight a 10 < 32768) where
-  pub summed-none : {s : ℤ} → s ≡ L-mult (at x p) (at a 0) → mag (at x p) < 2 ^ 15 → Summed a x p clamped s 0
-  unfolding weight
-  summed-none {s} e h = record { run = iter-none e; size = λ q. rw e (product-size (at x p) (at a 0) (mul-bound (at x p) (at a 0) (natAbs-in (at x p) h) (le-refl (natAbs (at a 0)))) (omega (arith, light q, weight-mono a 0 10))) }
+module _ (a x : List ℤ) (p : ℕ) {clamped : Bool} (light : clamped ≡ false → weight a 10 < 32768) where
+  module _ (h : mag (at x p) < 2 ^ 15) where
+    first-bound : natAbs (at x p *ℤ at a 0) ≤ 32768 * natAbs (at a 0)
+    first-bound = mul-bound (at x p) (at a 0) (natAbs-in (at x p) h) (le-refl (natAbs (at a 0)))
+
+    first-room : clamped ≡ false → 0 + 32768 * natAbs (at a 0) < 1073741824
+    unfolding weight
+    first-room q = omega (arith, light q, weight-mono a 0 10)
+
+    pub first-plain : clamped ≡ false → Unclamped (pos 0) (at x p) (at a 0)
+    first-plain q = unclamped-by (pos 0) (at x p) (at a 0) 0 (32768 * natAbs (at a 0)) (le-refl 0) first-bound (first-room q)
+
+    pub summed-none : {s : ℤ} → s ≡ L-mac (pos 0) (at x p) (at a 0) → Summed a x p clamped s 0
+    unfolding weight
+    summed-none e =
+        record {
+          run = iter-none (e ∙ mac-first (at x p) (at a 0));
+          size = λ q. rw e (omega (arith, sum-size (pos 0) (at x p) (at a 0) 0 (32768 * natAbs (at a 0)) (le-refl 0) first-bound (first-room q)));
+        }
 
   module _ {s : ℤ} {j : ℕ} (r : Summed a x p clamped s j) (u : j < 10) (h : mag (at x (p - (j + 1))) < 2 ^ 15) where
     abbrev c : ℤ

@@ -91,7 +91,7 @@ fn residual_sum(a: &[i16; 11], x: &[i16; 50], place: usize, clamped: bool) -> i3
     requires { ⌜ (10 ≤ place) × ((place < 50) × (clamped ≡ false → weight (now a) 10 < 32768)) ⌝ }
     ensures { λ r. ⌜ r ≡ residualSum (now (a .entry)) (now (x .entry)) place ⌝ }
 {
-    let mut s = l_mult(x[place], a[0]);
+    let mut s = mac(0, x[place], a[0], clamped);
     for j in 0..10 {
         s = mac(s, a[j + 1], x[place - (j + 1)], clamped);
     }

@@ -10,7 +10,7 @@ use Rattle.basicop.specs.Ops.{L-mult}
 use Rattle.basicop.proofs.Calls.{L-mac-eq}
 use Rattle.basicop.proofs.Unclamped.{unclamped-eq}
 use Rattle.postfilter.specs.Residual.{residualSum}
-use Rattle.postfilter.proofs.Residuals.{Summed, summed-none, step-plain, summed-more}
+use Rattle.postfilter.proofs.Residuals.{Summed, first-plain, summed-none, step-plain, summed-more}
 use Rattle.postfilter.proofs.residual_sum.Statement.{statement}
 use Rattle.postfilter.proofs.residual_sum.Tie as tie
 
@@ -20,24 +20,29 @@ Inv-loop a x place clamped s₀ j₀ s j = (j ≤ 10) × Summed a x place clampe
 abbrev μ-loop : tie.MeasureT-loop
 μ-loop a x place clamped s₀ j₀ s j = 10 - j
 
+mac-requires : tie.Need-mac-requires Inv-loop μ-loop
+mac-requires c κs q =
+    let s = c .before .before in
+    unclamped-eq (back w16 (c .before .mac-arg .given)) (back w16 (c .mac-arg2 .given)) (first-plain (s .args .a .now) (s .args .x .now) (s .args .place) (s .pre .1 .1) (c .before .mac-arg .given) q)
+
 loop-holds : tie.Need-loop-holds Inv-loop μ-loop
 loop-holds c =
     let s = c .before .before .before in
-    let g = c .before .before .l-mult-arg .given in
-    (search needs, summed-none (s .pre .1 .1) (got w32 (c .l-mult .ok) (c .l-mult .ensures ∙ ap₂ L-mult (back w16 {z = at (s .args .x .now) (s .args .place)} g) (back w16 {z = at (s .args .a .now) 0} (c .before .l-mult-arg2 .given)))) g)
+    let g = c .before .before .mac-arg .given in
+    (search needs, summed-none (s .args .a .now) (s .args .x .now) (s .args .place) (s .pre .1 .1) g (got w32 (c .mac .ok) (c .mac .ensures ∙ L-mac-eq refl (back w16 g) (back w16 (c .before .mac-arg2 .given)))))
 
-mac-requires : tie.Need-mac-requires Inv-loop μ-loop
-mac-requires c κs q =
+mac-requires-2 : tie.Need-mac-requires-2 Inv-loop μ-loop
+mac-requires-2 c κs q =
     let l = c .before .before .before in
     let s = l .before .before .before .before in
-    unclamped-eq (back w16 (c .before .mac-arg .given)) (back w16 (c .mac-arg2 .given)) (step-plain (s .pre .1 .1) (l .loop .inv .1) (search needs) (c .mac-arg2 .given) q)
+    unclamped-eq (back w16 (c .before .mac-arg3 .given)) (back w16 (c .mac-arg4 .given)) (step-plain (s .args .a .now) (s .args .x .now) (s .args .place) (s .pre .1 .1) (l .loop .inv .1) (search needs) (c .mac-arg4 .given) q)
 
 loop-again : tie.Need-loop-again Inv-loop μ-loop
 loop-again c =
     let l = c .before .before .before .before in
     let s = l .before .before .before .before in
-    let g = c .before .mac-arg2 .given in
-    (search needs, summed-more (s .pre .1 .1) (l .loop .inv .1) (search needs) g (got w32 (c .mac .ok) (c .mac .ensures ∙ L-mac-eq refl (back w16 (c .before .before .mac-arg .given)) (back w16 g))))
+    let g = c .before .mac-arg4 .given in
+    (search needs, summed-more (s .args .a .now) (s .args .x .now) (s .args .place) (s .pre .1 .1) (l .loop .inv .1) (search needs) g (got w32 (c .mac2 .ok) (c .mac2 .ensures ∙ L-mac-eq refl (back w16 (c .before .before .mac-arg3 .given)) (back w16 g))))
 
 returns : tie.Need-returns Inv-loop μ-loop
 unfolding residualSum
@@ -52,7 +57,7 @@ residual-sum-spec =
     (λ c. search needs)
     (λ c. search needs)
     (λ c. search needs)
-    (λ c κs. search needs)
+    mac-requires
     loop-holds
     (λ c. search needs)
     (λ c. search needs)
@@ -61,7 +66,7 @@ residual-sum-spec =
     (λ c. search needs)
     (λ c. search needs)
     (λ c. search needs)
-    mac-requires
+    mac-requires-2
     (λ c. search needs)
     (λ c. search needs)
     loop-again
