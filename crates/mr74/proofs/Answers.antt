@@ -23,7 +23,7 @@ use Rattle.mr74.specs.Sheet.{lsfsOf, subframesOf}
 use Rattle.mr74.specs.Verdict.{verdict}
 use Rattle.mr74.specs.Frame.{called, coreOf, turnsOf, flagsOf, frameTrace, frameCall}
 use Rattle.mr74.specs.Inner.{decodedOf, refusal}
-use Rattle.mr74.proofs.Machine.{ran-flags}
+use Rattle.mr74.proofs.Turns.{ran-flags}
 
 module _ (sheet : List ℤ) (s : State) where
   core-flags : Held (s .core) → map (λ (place : ℕ). ltb place 40) (toldFrame (coreOf sheet s) .run .places) ≡ flagsOf (turnsOf (coreOf sheet s .turns))

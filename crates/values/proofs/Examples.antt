@@ -33,7 +33,7 @@ use Rattle.state.specs.State.{WellFormed, stateVerdict, stateOf}
 use Rattle.mr74.specs.Sheet.{lagsOf}
 use Rattle.mr74.specs.Verdict.{firstIndexOutside, verdict}
 use Rattle.mr74.specs.Frame.{frameTrace}
-use Rattle.mr74.specs.Calls.{traceOf, runCalls, anyAccepted, latestFlag}
+use Rattle.demand3.specs.Calls.{traceOf, runCalls, anyAccepted, latestFlag}
 use Rattle.values.specs.Examples.{silent, loud, call, Seen, seen, expected, Example, ordered, FrameOrder, placed, Places}
 
 -- n zeros

@@ -13,9 +13,9 @@ use Rattle.decoder.specs.Core.{Turn}
 use Rattle.state.specs.declared.State.{State}
 use Rattle.state.specs.declared.Outcome.the-variants.{Accepted}
 use Rattle.state.specs.State.{WellFormed, stateVerdict}
 use Rattle.mr74.specs.Frame.{Trace}
-use Rattle.mr74.specs.Calls.{Call, traceOf, nextState, runCalls, stateAfter, accepted, anyAccepted, latestFlag}
-use Rattle.mr74.specs.Measure.{Machine, heldSamples, quarters, takesIn, leaves, leavesAll}
+use Rattle.demand3.specs.Calls.{Call, traceOf, nextState, runCalls, stateAfter, accepted, anyAccepted, latestFlag}
+use Rattle.demand3.specs.Measure.{Machine, heldSamples, quarters, takesIn, leaves, leavesAll}
 
 -- from .. to
 abbrev pub In : ℤ → ℤ → ℤ → Type 0

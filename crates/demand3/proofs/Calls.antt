@@ -8,13 +8,13 @@ use Rattle.state.specs.declared.State.{State}
 use Rattle.state.specs.declared.Outcome.{Outcome}
 use Rattle.state.specs.Outcome.{isAccepted}
 use Rattle.state.specs.State.{WellFormed}
 use Rattle.mr74.specs.Verdict.{verdict}
 use Rattle.mr74.specs.Frame.{Trace, acceptedTrace, refusedTrace, frameTrace}
-use Rattle.mr74.specs.Calls.{Call, Frame, traceOf, nextState, accepted}
-use Rattle.mr74.specs.Measure.{Machine, leavesAll}
-use Rattle.mr74.specs.Demand3.{opening, machineAfter, InCall, Refused}
+use Rattle.demand3.specs.Calls.{Call, Frame, traceOf, nextState, accepted}
+use Rattle.demand3.specs.Measure.{Machine, leavesAll}
+use Rattle.demand3.specs.Demand3.{opening, machineAfter, InCall, Refused}
 use Rattle.mr74.proofs.Passed.{Passed, passed}
-use Rattle.mr74.proofs.Frames.{frame-well-formed, frame-in}
+use Rattle.demand3.proofs.Frames.{frame-well-formed, frame-in}
 
 -- by cases
 pub decided : {P : Type 0} (b : Bool) → (b ≡ true → P) → (b ≡ false → P) → P

@@ -31,11 +31,12 @@ use Rattle.postfilter.proofs.Results.{Carried, processed-kept, framed-rows, row
 use Rattle.state.specs.declared.State.{State}
 use Rattle.state.specs.declared.Outcome.{Outcome}
 use Rattle.state.specs.State.{WellFormed}
 use Rattle.mr74.specs.Sheet.{lsfsOf, subframesOf}
 use Rattle.mr74.specs.Frame.{coreOf, postOf, nextOf, turnsOf, quotientsOf, acceptedTrace}
-use Rattle.mr74.specs.Demand3.{In, opening, InCall}
+use Rattle.demand3.specs.Demand3.{In, opening, InCall}
 use Rattle.mr74.proofs.Passed.{Passed}
-use Rattle.mr74.proofs.Machine.{Elevens, ran-held, ran-beside, ran-leaves}
+use Rattle.mr74.proofs.Turns.{ran-held}
+use Rattle.demand3.proofs.Machine.{Elevens, ran-beside, ran-leaves}
 
 -- ---- four subframes
 module _ (core : Core) (sheet : List ℤ) (old new : List ℤ) where

@@ -3,7 +3,6 @@ use Prim.Native.Nat.{ℕ, zero, suc, _-_}
 use mathlib.Core.Path.{_≡_, refl, sym, ap, _∙_, fun-ext, subst}
 use mathlib.Core.Bool.{Bool, true, false, cond}
 use mathlib.Core.List.{List, [], _∷_, map}
-use lib.Dec.{ltb}
 use lib.IntN.{ℤ, *ℤ-comm}
 use lib.ListN.{length, drop}
 use Rattle.lists.specs.Lists.{at}
@@ -16,12 +15,13 @@ use Rattle.decoder.specs.declared.Core.{Core}
 use Rattle.decoder.specs.declared.Parameters.{Parameters}
 use Rattle.decoder.specs.declared.Subframes.{Subframes}
 use Rattle.decoder.specs.Subframe.{Fed, Subframe, synthesised}
-use Rattle.decoder.specs.Core.{Turn, turn, ran, toldRun}
+use Rattle.decoder.specs.Core.{Turn, turn, ran}
 use Rattle.decoder.proofs.Retry.{retry}
-use Rattle.decoder.proofs.Results.{Held, turn-row, turn-made, turn-past, turn-history, turn-forty, turn-makes, turn-held, turn-flag}
-use Rattle.mr74.specs.Frame.{turnsOf, flagsOf}
-use Rattle.mr74.specs.Measure.{Machine, Measured, heldSum, heldSample, heldSamples, unretried, again, measured, leaves, leavesAll}
-use Rattle.mr74.specs.Demand3.{AsMeasured, Beside}
+use Rattle.decoder.proofs.Results.{Held, turn-row, turn-made, turn-past, turn-history, turn-forty, turn-makes}
+use Rattle.mr74.specs.Frame.{turnsOf}
+use Rattle.mr74.proofs.Turns.{ran-is, held-a, held-b, held-c}
+use Rattle.demand3.specs.Measure.{Machine, Measured, heldSum, heldSample, heldSamples, unretried, again, measured, leaves, leavesAll}
+use Rattle.demand3.specs.Demand3.{AsMeasured, Beside}
 
 -- ---- the machine's clamped steps are those of Syn_filt
 held-sum : (a : List ℤ) (x : ℤ) (y : List ℤ) (k : ℕ) → heldSum a x y k ≡ acc a x y k
@@ -118,33 +118,16 @@ module _ (core : Core) (rows : Rows) (p : Subframes) (h : Held core) where
   abbrev e : Turn
   e = turn (c .next) (rows .d) (p .d)
 
-  pub ran-is : turnsOf (ran core rows p) ≡ a ∷ b ∷ c ∷ e ∷ []
-  unfolding ran
-  ran-is = refl
-
-  held-a : Held (a .next)
-  held-a = turn-held core (rows .a) (p .a) h
-
-  held-b : Held (b .next)
-  held-b = turn-held (a .next) (rows .b) (p .b) held-a
-
-  held-c : Held (c .next)
-  held-c = turn-held (b .next) (rows .c) (p .c) held-b
-
-  pub ran-held : Held (ran core rows p .d .next)
-  unfolding ran
-  ran-held = turn-held (c .next) (rows .d) (p .d) held-c
-
   pub ran-beside : Elevens rows → Beside (machineOf core) (turnsOf (ran core rows p))
   ran-beside l =
-      subst (Beside (machineOf core)) (sym ran-is) (
+      subst (Beside (machineOf core)) (sym (ran-is core rows p)) (
         turn-measured core (rows .a) (p .a) h (l .a),
         subst (λ (m : Machine). Beside m (b ∷ c ∷ e ∷ [])) (sym (turn-leaves core (rows .a) (p .a) h)) (
-          turn-measured (a .next) (rows .b) (p .b) held-a (l .b),
-          subst (λ (m : Machine). Beside m (c ∷ e ∷ [])) (sym (turn-leaves (a .next) (rows .b) (p .b) held-a)) (
-            turn-measured (b .next) (rows .c) (p .c) held-b (l .c),
-            subst (λ (m : Machine). Beside m (e ∷ [])) (sym (turn-leaves (b .next) (rows .c) (p .c) held-b))
-                (turn-measured (c .next) (rows .d) (p .d) held-c (l .d), tt),
+          turn-measured (a .next) (rows .b) (p .b) (held-a core rows p h) (l .b),
+          subst (λ (m : Machine). Beside m (c ∷ e ∷ [])) (sym (turn-leaves (a .next) (rows .b) (p .b) (held-a core rows p h))) (
+            turn-measured (b .next) (rows .c) (p .c) (held-b core rows p h) (l .c),
+            subst (λ (m : Machine). Beside m (e ∷ [])) (sym (turn-leaves (b .next) (rows .c) (p .c) (held-b core rows p h)))
+                (turn-measured (c .next) (rows .d) (p .d) (held-c core rows p h) (l .d), tt),
           ),
         ),
       )
@@ -153,16 +136,6 @@ module _ (core : Core) (rows : Rows) (p : Subframes) (h : Held core) where
   unfolding ran leavesAll
   ran-leaves =
       ap (λ (m : Machine). leaves (e .fed) (leaves (c .fed) (leaves (b .fed) m))) (turn-leaves core (rows .a) (p .a) h)
-      ∙ ap (λ (m : Machine). leaves (e .fed) (leaves (c .fed) m)) (turn-leaves (a .next) (rows .b) (p .b) held-a)
-      ∙ ap (λ (m : Machine). leaves (e .fed) m) (turn-leaves (b .next) (rows .c) (p .c) held-b)
-      ∙ turn-leaves (c .next) (rows .d) (p .d) held-c
-
-  -- the flags, by the places
-  pub ran-flags : map (λ (place : ℕ). ltb place 40) (toldRun (ran core rows p) .places) ≡ flagsOf (turnsOf (ran core rows p))
-  unfolding ran
-  ran-flags =
-      let fa = turn-flag core (rows .a) (p .a) (h .past .count) in
-      let fb = turn-flag (a .next) (rows .b) (p .b) (held-a .past .count) in
-      let fc = turn-flag (b .next) (rows .c) (p .c) (held-b .past .count) in
-      let fd = turn-flag (c .next) (rows .d) (p .d) (held-c .past .count) in
-      λ i. sym fa i ∷ sym fb i ∷ sym fc i ∷ sym fd i ∷ []
+      ∙ ap (λ (m : Machine). leaves (e .fed) (leaves (c .fed) m)) (turn-leaves (a .next) (rows .b) (p .b) (held-a core rows p h))
+      ∙ ap (λ (m : Machine). leaves (e .fed) m) (turn-leaves (b .next) (rows .c) (p .c) (held-b core rows p h))
+      ∙ turn-leaves (c .next) (rows .d) (p .d) (held-c core rows p h)

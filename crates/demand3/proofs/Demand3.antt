@@ -9,12 +9,12 @@ use Rattle.lists.specs.Lists.{Every}
 use Rattle.basicop.proofs.Ints.{≤ℤ-trans}
 use Rattle.state.specs.declared.State.{State}
 use Rattle.state.specs.State.{WellFormed}
 use Rattle.mr74.specs.Frame.{Trace}
-use Rattle.mr74.specs.Calls.{Call, traceOf, nextState, runCalls, stateAfter, accepted, anyAccepted, latestFlag}
-use Rattle.mr74.specs.Measure.{Machine}
-use Rattle.mr74.specs.Demand3.{In, opening, EachCall, Demand3, Demand3-holds}
-use Rattle.mr74.proofs.Frames.{frame-sharpening, frame-gain, frame-small, frame-well-formed}
-use Rattle.mr74.proofs.Calls.{decided, accepts, refuses, next-well-formed, call-in, call-refused, next-machine}
+use Rattle.demand3.specs.Calls.{Call, traceOf, nextState, runCalls, stateAfter, accepted, anyAccepted, latestFlag}
+use Rattle.demand3.specs.Measure.{Machine}
+use Rattle.demand3.specs.Demand3.{In, opening, EachCall, Demand3, Demand3-holds}
+use Rattle.demand3.proofs.Frames.{frame-sharpening, frame-gain, frame-small, frame-well-formed}
+use Rattle.demand3.proofs.Calls.{decided, accepts, refuses, next-well-formed, call-in, call-refused, next-machine}
 
 -- ---- in each call
 each : (cs : List Call) (s : State) → WellFormed s → EachCall s (opening s) cs

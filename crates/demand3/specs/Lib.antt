@@ -1,0 +1,3 @@
+pub mod Calls
+pub mod Measure
+pub mod Demand3
