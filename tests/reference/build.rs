@@ -1,11 +1,20 @@
-//! Takes the published Rust from `shared/docs/src` beside the repository, applies the patches
-//! listed here and leaves the result in `OUT_DIR/reference`, from where `lib.rs` includes it.
-//! Nothing published is kept in the repository but the anchors of the patches.
+//! Takes the published Rust from `shared/docs/src` beside the repository, or from the checkout that
+//! `REFERENCE_SRC` names, applies the patches listed here and leaves the result in `OUT_DIR`, from
+//! where `lib.rs` includes it. Nothing published is kept in the repository but the anchors of the
+//! patches.
 
 use std::{env, fs, path::Path, process};
 
-/// Where the published files lie, from the repository's root.
-const PUBLISHED: &str = "../shared/docs/src/crates/bts136/src/codec";
+/// The published tree, from the repository's root, and the folder of its files.
+const TREE: &str = "../shared/docs/src";
+const FOLDER: &str = "crates/bts136/src/codec";
+
+/// What is written: the reference, and the same with two files as published, so that innovation and
+/// gains come from their indices.
+const BUILT: [(&str, &[&str]); 2] = [
+    ("reference", &[]),
+    ("indexed", &["mr74/codebook.rs", "mr74/gain.rs"]),
+];
 
 /// The published files that are compiled.
 const FILES: [&str; 16] = [
@@ -233,29 +242,37 @@ fn patched(file: &str, published: String) -> String {
 fn main() {
     let here = env::var("CARGO_MANIFEST_DIR").expect("cargo names the package's folder");
     let out = env::var("OUT_DIR").expect("cargo names the output folder");
+    let tree = env::var("REFERENCE_SRC").unwrap_or_default();
+    let tree = if tree.is_empty() { TREE } else { &tree };
     let here = Path::new(&here);
-    let published = here.join("../..").join(PUBLISHED);
-    let out = Path::new(&out).join("reference");
+    let published = here.join("../..").join(tree).join(FOLDER);
     println!("cargo::rerun-if-changed=build.rs");
+    println!("cargo::rerun-if-env-changed=REFERENCE_SRC");
     for patch in &PATCHES {
         if !FILES.contains(&patch.file) {
             fail(format!("a patch names {}, which is not read", patch.file));
         }
     }
-    for file in FILES {
-        let text = patched(file, read(&published.join(file)));
-        // An included file's modules are looked for beside it.
-        let place = if file == "mr74.rs" {
-            "mr74/mod.rs"
-        } else {
-            file
-        };
-        write(&out.join(place), &text);
-    }
-    for file in STUBS {
-        write(&out.join(file), &read(&here.join("stubs").join(file)));
-    }
-    for file in EMPTY {
-        write(&out.join(file), "");
+    for (name, plain) in BUILT {
+        let out = Path::new(&out).join(name);
+        for file in FILES {
+            let mut text = read(&published.join(file));
+            if !plain.contains(&file) {
+                text = patched(file, text);
+            }
+            // An included file's modules are looked for beside it.
+            let place = if file == "mr74.rs" {
+                "mr74/mod.rs"
+            } else {
+                file
+            };
+            write(&out.join(place), &text);
+        }
+        for file in STUBS {
+            write(&out.join(file), &read(&here.join("stubs").join(file)));
+        }
+        for file in EMPTY {
+            write(&out.join(file), "");
+        }
     }
 }

@@ -1,5 +1,6 @@
-//! `differential [FRAMES [SEED]]`: the static library against the reference, on FRAMES chained frames (200000) from a seed,
-//! and on sheets, buffers and records of every length about each boundary. Every byte that a call leaves is compared.
+//! `differential [FRAMES [SEED]]`: the static library against the reference, on FRAMES chained frames (200000) from a seed
+//! and a sixth as many whose sheets the source draws, and on sheets, buffers and records of every length about each boundary.
+//! Every byte that a call leaves is compared.
 
 use differential::{
     FLAGS_BYTES, Lent, OUT_BYTES, ROWS_BYTES, SHEET_BYTES, STATE_BYTES, bytes, read,
@@ -8,6 +9,9 @@ use differential::{
 use reference::{
     LSFS, SHEET, STATE, at,
     draw::{self, Loudness},
+    indexed::source::{self, Source},
+    mr74::stages::Decoded,
+    part,
     random::Random,
     record,
     report::Report,
@@ -117,10 +121,46 @@ fn same(lent: &mut Lent, sheet: &[u8]) -> bool {
     *lent == reference
 }
 
+/// What the frames of a kind came to.
+#[derive(Default)]
+struct Tally {
+    frames: u64,
+    retried: usize,
+    refused: usize,
+}
+
+impl Tally {
+    fn count(&mut self, lent: &Lent) {
+        self.frames += 1;
+        if lent.code == 0 {
+            self.retried += lent.flags.iter().filter(|flag| **flag == 1).count();
+        } else {
+            self.refused += 1;
+        }
+    }
+
+    fn passed(&self, report: &mut Report, name: &str) {
+        let Self {
+            frames,
+            retried,
+            refused,
+        } = self;
+        let text = format!(
+            "{name}: {frames} frames, {retried} subframes retried, {refused} frames refused"
+        );
+        report.line(true, &text);
+    }
+
+    fn differs(&self, report: &mut Report, name: &str, sheet: &[i16], state: &[u8]) {
+        report.line(false, &format!("{name}: frame {}", self.frames));
+        println!("sheet {sheet:?}\nstate {:?}", differential::words(state));
+    }
+}
+
 fn chained(report: &mut Report, random: &mut Random, kind: usize, frames: u64) {
     let (name, turns) = KINDS[kind];
     let mut lent = Lent::new(&opening(random, kind), 0);
-    let (mut retried, mut refused) = (0, 0);
+    let mut tally = Tally::default();
     for frame in 0..frames {
         if frame % turns == turns - 1 {
             lent.state = bytes(&opening(random, kind));
@@ -131,23 +171,56 @@ fn chained(report: &mut Report, random: &mut Random, kind: usize, frames: u64) {
         }
         let before = lent.clone();
         if !same(&mut lent, &bytes(&sheet)) {
-            report.line(false, &format!("{name}: frame {frame}"));
-            println!(
-                "sheet {sheet:?}\nstate {:?}",
-                differential::words(&before.state)
-            );
-            return;
+            return tally.differs(report, name, &sheet, &before.state);
         }
-        if lent.code == 0 {
-            retried += lent.flags.iter().filter(|flag| **flag == 1).count();
-        } else {
-            refused += 1;
-        }
+        tally.count(&lent);
     }
-    report.line(
-        true,
-        &format!("{name}: {frames} frames, {retried} subframes retried, {refused} frames refused"),
-    );
+    tally.passed(report, name);
+}
+
+/// An accepted call left what the source's decoder, going its own way from the indices, gives.
+fn agrees(lent: &Lent, wanted: &Decoded) -> bool {
+    let flags = wanted.flags.map(|flag| flag as u8);
+    lent.out == bytes(&wanted.samples)
+        && lent.rows == bytes(wanted.rows.as_flattened())
+        && lent.flags == flags
+        && lent.state == bytes(&wanted.state)
+}
+
+/// Sheets as the source has them from random indices: its codebook's innovation, and its gain decoder's gains, whose memory
+/// runs along with the chain. A damaged sheet is refused, and the source's decoder stays where it is.
+fn by_source(report: &mut Report, random: &mut Random, frames: u64) {
+    const TURNS: u64 = 300;
+    let name = "innovation and gains by the source from random indices, gaps kept";
+    let start = |random: &mut Random| {
+        let state = opening(random, 0);
+        (Lent::new(&state, 0), Source::new(&part(&state, 0)))
+    };
+    let (mut lent, mut source) = start(random);
+    let mut tally = Tally::default();
+    for frame in 0..frames {
+        if frame % TURNS == TURNS - 1 {
+            (lent, source) = start(random);
+        }
+        let lsf = if random.once_in(2) {
+            draw::spread(random)
+        } else {
+            draw::kept(random)
+        };
+        let indices = source::indices(random);
+        let mut sheet = source.sheet(&lsf, &indices);
+        while random.once_in(24) {
+            damage(random, &mut sheet);
+        }
+        let before = lent.clone();
+        let good = same(&mut lent, &bytes(&sheet))
+            && (lent.code != 0 || agrees(&lent, &source.decode(&sheet, &indices)));
+        if !good {
+            return tally.differs(report, name, &sheet, &before.state);
+        }
+        tally.count(&lent);
+    }
+    tally.passed(report, name);
 }
 
 /// Runs cases and tells the first that differs.
@@ -355,10 +428,11 @@ fn main() -> ExitCode {
     lengths(&mut report, &mut random);
     limits(&mut report, &mut random);
     records(&mut report, &mut random);
+    let share = frames.div_ceil(KINDS.len() as u64);
     for kind in 0..KINDS.len() {
-        let share = frames.div_ceil(KINDS.len() as u64);
         chained(&mut report, &mut random, kind, share);
     }
+    by_source(&mut report, &mut random, share);
     if report.end() {
         ExitCode::SUCCESS
     } else {

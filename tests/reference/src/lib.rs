@@ -1,14 +1,27 @@
 //! The published Rust of the MR74 sample path as a reference: its stages one by one, the frame
 //! call built from them, and the recorded answers that they give.
 
-/// The published modules as `build.rs` leaves them, and two of ours among them.
+/// The published modules as `build.rs` leaves them, and three of ours among them.
 #[allow(dead_code, unused, unreachable_code, clippy::all)]
 pub mod mr74 {
     include!(concat!(env!("OUT_DIR"), "/reference/mr74/mod.rs"));
     pub mod sheet;
     pub mod stages;
+    pub mod state;
 }
 
+/// The same modules with the codebook and the gain decoder as published.
+#[allow(dead_code, unused, clippy::all)]
+pub mod indexed {
+    include!(concat!(env!("OUT_DIR"), "/indexed/mr74/mod.rs"));
+    #[path = "../mr74/sheet.rs"]
+    pub mod sheet;
+    pub mod source;
+    #[path = "../mr74/state.rs"]
+    pub mod state;
+}
+
+pub mod agree;
 pub mod bench;
 pub mod coverage;
 pub mod draw;

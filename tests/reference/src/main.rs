@@ -1,7 +1,7 @@
 //! `reference COMMAND`: see USAGE.
 
 use reference::{
-    bench, coverage,
+    agree, bench, coverage,
     files::{self, FILES, Field, File},
     program,
     report::Report,
@@ -21,6 +21,9 @@ reference check DIR      makes them again and compares them with the files in DI
 reference show FILE      prints a recorded file, one record a line
 reference coverage DIR   counts what the files in DIR cover
 reference layout         the tables of the files, in Markdown
+reference agree FRAMES SEED
+                         the second decoder against the reference: FRAMES random accepted frames,
+                         every LSF, lag and argument of the inverse root
 reference bench          the bench program's lines for standard input
 reference bench PROGRAM  runs the bench program and compares its lines with these
 reference example        the bytes of examples/call.bin
@@ -39,22 +42,28 @@ fn main() -> ExitCode {
             print!("{}", files::layout());
             true
         }
+        ["agree", frames, seed] => match (frames.parse(), seed.parse()) {
+            (Ok(frames), Ok(seed)) => agree::run(frames, seed),
+            _ => usage(),
+        },
         ["bench"] => bench(),
         ["bench", program] => program::check(Path::new(program), Path::new("examples")),
         ["example"] => put([program::example()]),
         ["call", sheets] => sheets
             .parse()
             .is_ok_and(|sheets| put(program::call(1, sheets, 1000))),
-        _ => {
-            eprintln!("{USAGE}");
-            false
-        }
+        _ => usage(),
     };
     if good {
         ExitCode::SUCCESS
     } else {
         ExitCode::FAILURE
     }
+}
+
+fn usage() -> bool {
+    eprintln!("{USAGE}");
+    false
 }
 
 fn failed(what: &str, error: io::Error) -> bool {

@@ -33,7 +33,7 @@ fn record_of(state: &[i16]) -> Vec<u8> {
 }
 
 /// A sheet that is accepted: gaps kept three times in four.
-fn sheet(random: &mut Random) -> Vec<i16> {
+pub fn sheet(random: &mut Random) -> Vec<i16> {
     let loudness = random.of(&[Loudness::Speech, Loudness::Loud, Loudness::Any]);
     let lsf = match random.range(0, 3) {
         0 => draw::broken(random),

@@ -14,7 +14,7 @@ thread_local! {
     static CURRENT: Cell<[i16; SHEET]> = const { Cell::new([0; SHEET]) };
 }
 
-pub(super) fn set(sheet: &[i16; SHEET]) {
+pub fn set(sheet: &[i16; SHEET]) {
     CURRENT.set(*sheet);
 }
 
@@ -24,18 +24,18 @@ fn place(subframe: u16) -> usize {
     subframe
 }
 
-pub(super) fn spectrum() -> Spectrum {
+pub fn spectrum() -> Spectrum {
     let lsf_q15 = part(&CURRENT.get(), 0);
     let lsp_q15 = lsf_to_lsp(&lsf_q15).expect("the sheet's LSFs were tested");
     Spectrum { lsf_q15, lsp_q15 }
 }
 
-pub(super) fn gains(subframe: u16) -> Gains {
+pub fn gains(subframe: u16) -> Gains {
     let [pitch_q14, code_q1] = part(&CURRENT.get(), at::GAINS + 2 * place(subframe));
     Gains { pitch_q14, code_q1 }
 }
 
-pub(super) fn innovation(subframe: u16) -> [i16; SUBFRAME_SAMPLES] {
+pub fn innovation(subframe: u16) -> [i16; SUBFRAME_SAMPLES] {
     part(
         &CURRENT.get(),
         at::INNOVATION + SUBFRAME_SAMPLES * place(subframe),

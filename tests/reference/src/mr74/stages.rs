@@ -2,9 +2,9 @@
 #![warn(unused, clippy::all)]
 
 use super::{
-    PARAMETER_COUNT, Parameters, adaptive, decoder::Decoder, energy, energy::GainControl, lpc,
-    lpc::LpcDecoder, pitch::Fraction, pitch::PitchLag, postfilter::Postfilter, sheet, spectral,
-    spectral::Spectrum, synthesis::SynthesisFilter,
+    PARAMETER_COUNT, Parameters, adaptive, energy, energy::GainControl, lpc, lpc::LpcDecoder,
+    pitch::Fraction, pitch::PitchLag, sheet, spectral, spectral::Spectrum, state,
+    synthesis::SynthesisFilter,
 };
 use crate::{FRAME, LSFS, MEMORY, PAST, ROW, SHEET, STATE, SUBFRAME, SUBFRAMES, at, part};
 
@@ -132,36 +132,16 @@ pub fn filter(row: &[i16; ROW], history: &[i16; LSFS], excitation: &[i16; SUBFRA
     }
 }
 
-fn restored(memory: &[i16; MEMORY]) -> Postfilter {
-    Postfilter {
-        input_history: part(memory, 0),
-        previous_residual: memory[2 * LSFS],
-        synthesis: SynthesisFilter::with_history(part(memory, LSFS)),
-        gain: GainControl {
-            previous_gain: memory[2 * LSFS + 1],
-        },
-    }
-}
-
-fn memory(postfilter: &Postfilter) -> [i16; MEMORY] {
-    let mut memory = [0; MEMORY];
-    memory[..LSFS].copy_from_slice(&postfilter.input_history);
-    memory[LSFS..2 * LSFS].copy_from_slice(&postfilter.synthesis.history_q0);
-    memory[2 * LSFS] = postfilter.previous_residual;
-    memory[2 * LSFS + 1] = postfilter.gain.previous_gain;
-    memory
-}
-
 /// One frame; the memory is fields 175..=196 of the state.
 pub fn postfilter(
     before: &[i16; MEMORY],
     samples: &[i16; FRAME],
     rows: &[[i16; ROW]; SUBFRAMES],
 ) -> ([i16; FRAME], [i16; MEMORY]) {
-    let mut postfilter = restored(before);
+    let mut postfilter = state::postfilter(before);
     let mut filtered = *samples;
     postfilter.process(&mut filtered, rows);
-    (filtered, memory(&postfilter))
+    (filtered, state::memory(&postfilter))
 }
 
 /// What an accepted call gives.
@@ -186,28 +166,17 @@ pub fn decode(sheet: &[i16; SHEET], state: &[i16; STATE]) -> Decoded {
     let parameters = Parameters::try_new(values).expect("the sheet's pitch indices were tested");
     sheet::set(sheet);
 
-    let mut decoder = Decoder::default();
-    decoder.lpc.previous_lsp_q15 = part(state, 0);
-    decoder.excitation.history_q0 = part(state, at::PAST);
-    decoder.excitation.sharpening_q14 = state[at::SHARPENING];
-    decoder.synthesis.history_q0 = part(state, at::HISTORY);
+    let mut decoder = state::decoder(state);
     let frame = decoder.decode_good(&parameters);
-
     let (samples, memory) = postfilter(
         &part(state, at::MEMORY),
         &frame.samples_q0,
         &frame.coefficients_q12,
     );
-    let mut next = [0; STATE];
-    next[..at::PAST].copy_from_slice(&decoder.lpc.previous_lsp_q15);
-    next[at::PAST..at::SHARPENING].copy_from_slice(&decoder.excitation.history_q0);
-    next[at::SHARPENING] = decoder.excitation.sharpening_q14;
-    next[at::HISTORY..at::MEMORY].copy_from_slice(&decoder.synthesis.history_q0);
-    next[at::MEMORY..].copy_from_slice(&memory);
     Decoded {
         samples,
         flags: frame.overflow_retries.map(i16::from),
         rows: frame.coefficients_q12,
-        state: next,
+        state: state::numbers(&decoder, &memory),
     }
 }
