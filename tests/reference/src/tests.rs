@@ -1,8 +1,11 @@
 use crate::{
-    FRAME, LSFS, ROW, SHEET, STATE, SUBFRAME, SUBFRAMES, at,
+    FRAME, LSFS, ROW, SHEET, STATE, SUBFRAME, SUBFRAMES, at, draw,
     files::{self, FILES},
     frame::frame,
-    part, record, values,
+    indexed::source::{self, Source},
+    part,
+    random::Random,
+    record, values,
 };
 use std::{fs, path::PathBuf};
 
@@ -100,4 +103,27 @@ fn records_come_back() {
     assert_eq!((read.refusal, read.state), (0, state));
     assert_eq!(read.note, [9; 3]);
     assert_eq!(record::read(&bytes[..record::RECORD]).refusal, 12);
+}
+
+/// A sheet of the codebook's innovation and the gain decoder's gains is decoded as the published
+/// decoder decodes the indices.
+#[test]
+fn sheets_stand_for_indices() {
+    let mut random = Random::new(74);
+    let mut state = [0; STATE];
+    let mut source = Source::new(&state);
+    for _ in 0..500 {
+        let lsf = draw::kept(&mut random);
+        let indices = source::indices(&mut random);
+        let sheet = source.sheet(&lsf, &indices);
+        let mut out = [0; FRAME];
+        let answer = frame(&sheet, &state, &mut out);
+        let wanted = source.decode(&sheet, &indices);
+        assert_eq!(answer.refusal, 0);
+        assert_eq!(out, wanted.samples);
+        assert_eq!(answer.flags, wanted.flags);
+        assert_eq!(answer.rows, wanted.rows);
+        assert_eq!(answer.state, wanted.state);
+        state = answer.state;
+    }
 }
