@@ -1,10 +1,9 @@
 -- Refusals: document 01, "Turned back by the sheet" and "Turned back by the state".
-use mathlib.Core.Bool.{Bool, cond}
-use mathlib.Core.List.{List, [], _∷_}
+use mathlib.Core.Bool.{Bool}
 use Prim.Native.Nat.{ℕ}
 use lib.Dec.{eqb}
-use Rattle.state.specs.declared.Outcome.{Outcome}
-use Rattle.state.specs.declared.Outcome.the-variants.{Accepted, SheetLength, Lsf, PitchIndex, Gain, OutputLength, RecordShort, Tag, Version, Layout, BodyShort, Sharpening, SmoothedGain}
+use Rattle.outcome.specs.declared.Outcome.{Outcome}
+use Rattle.outcome.specs.declared.Outcome.the-variants.{Accepted, SheetLength, Lsf, PitchIndex, Gain, OutputLength, RecordShort, Tag, Version, Layout, BodyShort, Sharpening, SmoothedGain}
 
 -- the paper's number, and 0 for what is accepted
 abbrev pub numberOf : Outcome → ℕ
@@ -41,15 +40,3 @@ placeOf SmoothedGain = 0
 abbrev pub isAccepted : Outcome → Bool
 isAccepted o = eqb (numberOf o) 0
 
--- a row of a table: whether its condition is met, and the refusal
-pub record Row : Type 0 where
-  pub met : Bool
-  pub refusal : Outcome
-
-abbrev pub row : Bool → Outcome → Row
-row met refusal = record { met = met; refusal = refusal }
-
--- rows are tested in order: the first that is met turns the call back
-unfoldable pub firstMet : List Row → Outcome
-firstMet [] = Accepted
-firstMet (r ∷ rows) = cond (r .met) (r .refusal) (firstMet rows)

@@ -1,9 +1,10 @@
+-- `Outcome::accepted` meets its contract: the number is 0.
 use borrow.Author.Needs.{needs}
 use mathlib.Core.Path.{ap}
 use Prim.Native.Nat.{ℕ}
 use lib.Dec.{eqb}
-use Rattle.state.proofs.Outcome.accepted.Statement.{statement}
-use Rattle.state.proofs.Outcome.accepted.Tie as tie
+use Rattle.outcome.proofs.Outcome.accepted.Statement.{statement}
+use Rattle.outcome.proofs.Outcome.accepted.Tie as tie
 
 returns : tie.Need-returns
 returns c = ap (λ (n : ℕ). eqb n 0) (c .number .ensures)
