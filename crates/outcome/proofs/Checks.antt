@@ -50,12 +50,15 @@ first-append (c ∷ xs) ys r =
     go false o z x y n e = e
 
 -- as a chain of calls leaves it: a group's outcome o, what `accepted` says of it, and the branch on that
+pub accepts-here : {o : Outcome} {b : Bool} (xs : List Check) → o ≡ firstMet xs → b ≡ isAccepted o → not b ≡ false → isAccepted (firstMet xs) ≡ true
+accepts-here {o} {b} xs e a n = rw (← e) (sym a ∙ not-false b n)
+
 module _ {o : Outcome} {b : Bool} (xs ys : List Check) (r : T (refusals xs)) (e : o ≡ firstMet xs) (a : b ≡ isAccepted o) where
   pub refused-here : not b ≡ true → o ≡ firstMet (xs ++ ys)
   refused-here n = rw (first-append xs ys r, ← e, sym a ∙ not-true b n)
 
   pub accepted-here : not b ≡ false → firstMet ys ≡ firstMet (xs ++ ys)
-  accepted-here n = rw (first-append xs ys r, ← e, sym a ∙ not-false b n)
+  accepted-here n = rw (first-append xs ys r, accepts-here xs e a n)
 
 -- ---- what acceptance says
 either : (a : Bool) (x y : Outcome) → isAccepted x ≡ a → isAccepted (cond a y x) ≡ true → (isAccepted x ≡ true) × (isAccepted y ≡ true)
