@@ -49,6 +49,9 @@ first-append (c ∷ xs) ys r =
     go true o z x y n e = rw n
     go false o z x y n e = e
 
+pub passed : (xs ys : List Check) → T (refusals xs) → isAccepted (firstMet xs) ≡ true → firstMet ys ≡ firstMet (xs ++ ys)
+passed xs ys r h = rw (first-append xs ys r, h)
+
 -- as a chain of calls leaves it: a group's outcome o, what `accepted` says of it, and the branch on that
 pub accepts-here : {o : Outcome} {b : Bool} (xs : List Check) → o ≡ firstMet xs → b ≡ isAccepted o → not b ≡ false → isAccepted (firstMet xs) ≡ true
 accepts-here {o} {b} xs e a n = rw (← e) (sym a ∙ not-false b n)
@@ -58,7 +61,7 @@ module _ {o : Outcome} {b : Bool} (xs ys : List Check) (r : T (refusals xs)) (e 
   refused-here n = rw (first-append xs ys r, ← e, sym a ∙ not-true b n)
 
   pub accepted-here : not b ≡ false → firstMet ys ≡ firstMet (xs ++ ys)
-  accepted-here n = rw (first-append xs ys r, accepts-here xs e a n)
+  accepted-here n = passed xs ys r (accepts-here xs e a n)
 
 -- ---- what acceptance says
 either : (a : Bool) (x y : Outcome) → isAccepted x ≡ a → isAccepted (cond a y x) ≡ true → (isAccepted x ≡ true) × (isAccepted y ≡ true)
