@@ -60,8 +60,8 @@ module _ (sheet : List ℤ) where
   sheet-placed : Placed (sheetChecks sheet)
   sheet-placed = placed-append (lsfChecks sheet) (pitchChecks sheet ++ gainChecks sheet) lsfs-placed (placed-append (pitchChecks sheet) (gainChecks sheet) pitch-placed gains-placed)
 
-  pub frame-place : (s : State) (room : ℕ) → placeOf (frameOutcome sheet s room) < 256
+  pub outcome-place : (s : State) (room : ℕ) → placeOf (frameOutcome sheet s room) < 256
   unfolding frameOutcome
-  frame-place s room =
+  outcome-place s room =
       place-low (frameChecks sheet s room)
       (placed-append (lengthChecks 182 (length sheet) room) (sheetChecks sheet ++ stateChecks s) (none-placed (lengthChecks 182 (length sheet) room) tt) (placed-append (sheetChecks sheet) (stateChecks s) sheet-placed (state-placed s)))
