@@ -5,7 +5,7 @@ use Prim.Native.Nat.{ℕ}
 use lib.IntN.{pos}
 use lib.ListN.{replicate}
 use Rattle.state.specs.declared.State.{State}
-use Rattle.state.specs.Outcome.{numberOf, placeOf, isAccepted}
+use Rattle.outcome.specs.Outcome.{numberOf, placeOf, isAccepted}
 use Rattle.coding.specs.Bytes.{words}
 use Rattle.mr74.specs.Frame.{Called, frameCall}
 use Rattle.lines.specs.Lines.{peakOf, frameLine, refusedLine}

@@ -13,7 +13,7 @@ use borrow.Rule.Slice.PartMut.{putMid}
 use borrow.Author.Tests.{eq-eqb, ne-eqb, eqb-true}
 use Rattle.lpc.specs.declared.Rows.{Rows}
 use Rattle.state.specs.declared.State.{State}
-use Rattle.state.specs.Outcome.{isAccepted}
+use Rattle.outcome.specs.Outcome.{isAccepted}
 use Rattle.coding.specs.Bytes.{words, bytesOf}
 use Rattle.coding.proofs.Laid.{bytes-length, bytes-append, laid-none, laid-more, laid-done}
 use Rattle.mr74.specs.declared.FrameAnswer.{FrameAnswer}

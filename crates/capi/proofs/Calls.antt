@@ -5,7 +5,7 @@ use Prim.Native.Nat.{ℕ}
 use lib.ListN.{length}
 use borrow.Author.Tests.{eq-eqb, ne-eqb}
 use Rattle.state.specs.declared.State.{State}
-use Rattle.state.specs.declared.Outcome.{Outcome}
+use Rattle.outcome.specs.declared.Outcome.{Outcome}
 use Rattle.record.specs.declared.Answer.{Answer}
 use Rattle.record.specs.Record.{readCall, written, writeCall}
 use Rattle.mr74.specs.declared.FrameAnswer.{FrameAnswer}

@@ -7,36 +7,21 @@ use native.Mathlib.Omega.{arith}
 use lib.Dec.{eqb}
 use lib.ListN.{length}
 use borrow.Author.Tests.{eqb-true}
-use Rattle.state.specs.declared.Outcome.{Outcome}
-use Rattle.state.specs.declared.Outcome.the-variants.{Accepted, SheetLength, Lsf, PitchIndex, Gain, OutputLength, RecordShort, Tag, Version, Layout, BodyShort, Sharpening, SmoothedGain}
-use Rattle.state.specs.Outcome.{numberOf, placeOf, isAccepted}
+use Rattle.outcome.specs.declared.Outcome.{Outcome}
+use Rattle.outcome.specs.Outcome.{isAccepted}
+use Rattle.outcome.proofs.Variants.{accepted-number, accepted-place}
 use Rattle.state.proofs.Numbers.{numbers-of-state}
 use Rattle.coding.specs.Bytes.{words, bytesOf, Bytes}
 use Rattle.coding.proofs.Bytes.{bytes-back}
 use Rattle.coding.proofs.Laid.{bytes-length}
-use Rattle.mr74.specs.Verdict.{verdict}
+use Rattle.mr74.specs.Checks.{frameOutcome}
 use Rattle.mr74.specs.Frame.{refusedTrace, frameTrace, given, Called, frameCall}
 use Rattle.capi.specs.Capi.{codeOf, stateIn, stateBytes, sheetIn, roomIn, outAfter, rowBytes, flagBytes, FrameLeft, frameLeft, frameBytes, Kept}
 use Rattle.capi.proofs.Codes.{frame-outcome}
 
-no-place : (o : Outcome) → numberOf o ≡ 0 → placeOf o ≡ 0
-no-place Accepted e = refl
-no-place SheetLength e = refl
-no-place (Lsf place) e = absurd (omega (arith, e))
-no-place (PitchIndex place) e = absurd (omega (arith, e))
-no-place (Gain place) e = absurd (omega (arith, e))
-no-place OutputLength e = refl
-no-place RecordShort e = refl
-no-place Tag e = refl
-no-place Version e = refl
-no-place Layout e = refl
-no-place BodyShort e = refl
-no-place Sharpening e = refl
-no-place SmoothedGain e = refl
-
 -- what is accepted has the code 0
 accepted-code : (o : Outcome) → isAccepted o ≡ true → codeOf o ≡ 0
-accepted-code o e = let n = eqb-true (numberOf o) 0 e in omega (arith, n, no-place o n)
+accepted-code o e = omega (arith, accepted-number o e, accepted-place o e)
 
 -- the bytes of the state of 394 bytes are those bytes
 same-bytes : (state : List ℕ) → length state ≡ 394 → Bytes state → stateBytes (stateIn state) ≡ state
@@ -58,7 +43,7 @@ module _ (sheet state out rows flags : List ℕ) (bytes : Bytes state) where
   leftBy c = frameLeft (codeOf (c .answer .outcome)) (stateBytes (c .answer .next)) (outAfter c out) (rowBytes (c .answer .rows)) (flagBytes (c .answer .flags))
 
   abbrev o : Outcome
-  o = verdict (sheetIn sheet) (stateIn state) (length (roomIn out))
+  o = frameOutcome (sheetIn sheet) (stateIn state) (length (roomIn out))
 
   refused : isAccepted o ≡ false → frameCall (sheetIn sheet) (stateIn state) (roomIn out) ≡ given (refusedTrace o (stateIn state) (roomIn out))
   unfolding frameCall frameTrace

@@ -8,8 +8,8 @@ use lib.IntN.{ℤ, pos}
 use lib.ListN.{length, replicate}
 use Rattle.lpc.specs.declared.Rows.{Rows}
 use Rattle.state.specs.declared.State.{State}
-use Rattle.state.specs.declared.Outcome.{Outcome}
-use Rattle.state.specs.Outcome.{numberOf, placeOf, isAccepted}
+use Rattle.outcome.specs.declared.Outcome.{Outcome}
+use Rattle.outcome.specs.Outcome.{numberOf, placeOf, isAccepted}
 use Rattle.state.specs.State.{stateOf, numbersOf}
 use Rattle.coding.specs.Bytes.{words, bytesOf, Bytes}
 use Rattle.record.specs.Record.{readCall, writeCall}

@@ -2,12 +2,12 @@
 ghost use mathlib.Core.Path.{_≡_};
 ghost use Prim.Native.Nat.{_≤_, _<_};
 ghost use lib.ListN.{length, take};
-ghost use Rattle.state.specs.Outcome.{placeOf};
+ghost use Rattle.outcome.specs.Outcome.{placeOf};
 ghost use Rattle.mr74.specs.Frame.{called, frameCall};
 ghost use Rattle.capi.specs.Capi.{codeOf, sheetIn, roomOf, roomIn, outAfter, rowBytes, flagBytes, stateBytes, frameLeft, frameBytes, readLeft, readBytes, writeLeft, writeBytes};
 use lpc::Rows;
 use mr74::FrameAnswer;
-use state::Outcome;
+use outcome::Outcome;
 use state::State;
 
 const STATE_BYTES: usize = 394;
@@ -21,7 +21,7 @@ const UNFIT: u32 = 255;
 
 // Number and place in one.
 fn code(outcome: Outcome) -> u32
-    requires { ⌜ placeOf outcome < 10 ⌝ }
+    requires { ⌜ placeOf outcome < 256 ⌝ }
     ensures { λ r. ⌜ r ≡ codeOf outcome ⌝ }
 {
     let number = outcome.number() as u32;
@@ -103,7 +103,7 @@ fn write_flags(flags: [bool; 4], out: &mut [u8])
 // What an answer leaves in what was lent beside the output.
 fn give(answer: FrameAnswer, state: &mut [u8], rows: &mut [u8], flags: &mut [u8]) -> u32
     requires { ⌜ (length (now state) ≡ 394) × ((length (now rows) ≡ 88) × (length (now flags) ≡ 4)) ⌝ }
-    requires { ⌜ placeOf (answer .outcome) < 10 ⌝ }
+    requires { ⌜ placeOf (answer .outcome) < 256 ⌝ }
     ensures { λ r. ⌜ r ≡ codeOf (answer .outcome) ⌝ }
     ensures { λ _. ⌜ now (state .exit) ≡ stateBytes (answer .next) ⌝ }
     ensures { λ _. ⌜ now (rows .exit) ≡ rowBytes (answer .rows) ⌝ }

@@ -5,10 +5,10 @@ use mathlib.Core.List.{List}
 use lib.IntN.{ℤ}
 use lib.ListN.{length}
 use Rattle.state.specs.declared.State.{State}
-use Rattle.state.specs.declared.Outcome.{Outcome}
-use Rattle.state.specs.Outcome.{isAccepted}
+use Rattle.outcome.specs.declared.Outcome.{Outcome}
+use Rattle.outcome.specs.Outcome.{isAccepted}
 use Rattle.state.specs.State.{WellFormed}
-use Rattle.mr74.specs.Verdict.{verdict}
+use Rattle.mr74.specs.Checks.{frameOutcome}
 use Rattle.mr74.specs.Frame.{Trace, acceptedTrace, refusedTrace, frameTrace}
 use Rattle.demand3.specs.Calls.{Call, Frame, traceOf, nextState, accepted}
 use Rattle.demand3.specs.Measure.{Machine, leavesAll}
@@ -23,7 +23,7 @@ decided false f g = g refl
 
 module _ (sheet : List ℤ) (s : State) (out : List ℤ) where
   abbrev o : Outcome
-  o = verdict sheet s (length out)
+  o = frameOutcome sheet s (length out)
 
   trace-accepted : isAccepted o ≡ true → frameTrace sheet s out ≡ acceptedTrace o sheet s
   unfolding frameTrace
@@ -52,11 +52,11 @@ pub record Accepts (s : State) (c : Call) : Type 0 where
 pub accepts : (s : State) (c : Call) → accepted (traceOf s c) ≡ true → Accepts s c
 accepts s (Frame sheet out) e =
     let a = sym (told sheet s out) ∙ e in
-    record { sheet = sheet; out = out; outcome = verdict sheet s (length out); passed = passed sheet s (length out) a; trace = trace-accepted sheet s out a }
+    record { sheet = sheet; out = out; outcome = frameOutcome sheet s (length out); passed = passed sheet s (length out) a; trace = trace-accepted sheet s out a }
 
 -- a refused one gives the state back, and has no subframe
 pub refuses : (s : State) (c : Call) → accepted (traceOf s c) ≡ false → (o : Outcome) × ((out : List ℤ) × (traceOf s c ≡ refusedTrace o s out))
-refuses s (Frame sheet out) e = (verdict sheet s (length out), (out, trace-refused sheet s out (sym (told sheet s out) ∙ e)))
+refuses s (Frame sheet out) e = (frameOutcome sheet s (length out), (out, trace-refused sheet s out (sym (told sheet s out) ∙ e)))
 
 pub call-refused : (s : State) (c : Call) (m : Machine) → accepted (traceOf s c) ≡ false → Refused s (traceOf s c) m
 unfolding leavesAll

@@ -29,7 +29,7 @@ use Rattle.decoder.proofs.Results.{Held, turn-makes, turn-held, turn-sharpening
 use Rattle.postfilter.specs.Tilted.{Framed}
 use Rattle.postfilter.proofs.Results.{Carried, processed-kept, framed-rows, rows-first}
 use Rattle.state.specs.declared.State.{State}
-use Rattle.state.specs.declared.Outcome.{Outcome}
+use Rattle.outcome.specs.declared.Outcome.{Outcome}
 use Rattle.state.specs.State.{WellFormed}
 use Rattle.mr74.specs.Sheet.{lsfsOf, subframesOf}
 use Rattle.mr74.specs.Frame.{coreOf, postOf, nextOf, turnsOf, quotientsOf, acceptedTrace}

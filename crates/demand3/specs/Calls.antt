@@ -4,7 +4,7 @@ use mathlib.Core.List.{List, [], _∷_}
 use lib.IntN.{ℤ}
 use lib.ListN.{getD}
 use Rattle.state.specs.declared.State.{State}
-use Rattle.state.specs.Outcome.{isAccepted}
+use Rattle.outcome.specs.Outcome.{isAccepted}
 use Rattle.mr74.specs.Frame.{Trace, frameTrace}
 
 -- a call brings its own sheet and output

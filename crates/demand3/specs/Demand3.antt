@@ -11,8 +11,8 @@ use Rattle.synthesis.specs.Whole.{wholeSamples, retried}
 use Rattle.decoder.specs.Subframe.{Fed, Subframe}
 use Rattle.decoder.specs.Core.{Turn}
 use Rattle.state.specs.declared.State.{State}
-use Rattle.state.specs.declared.Outcome.the-variants.{Accepted}
-use Rattle.state.specs.State.{WellFormed, stateVerdict}
+use Rattle.outcome.specs.declared.Outcome.the-variants.{Accepted}
+use Rattle.state.specs.State.{WellFormed, stateOutcome}
 use Rattle.mr74.specs.Frame.{Trace}
 use Rattle.demand3.specs.Calls.{Call, traceOf, nextState, runCalls, stateAfter, accepted, anyAccepted, latestFlag}
 use Rattle.demand3.specs.Measure.{Machine, heldSamples, quarters, takesIn, leaves, leavesAll}
@@ -92,4 +92,4 @@ pub record Demand3 (s : State) (cs : List Call) : Type 0 where
 
 -- from any accepted state, for every list of calls, refused ones included, of any sheets and outputs, the empty list too
 abbrev pub Demand3-holds : Type 0
-Demand3-holds = (s : State) → WellFormed s → stateVerdict s ≡ Accepted → (cs : List Call) → Demand3 s cs
+Demand3-holds = (s : State) → WellFormed s → stateOutcome s ≡ Accepted → (cs : List Call) → Demand3 s cs

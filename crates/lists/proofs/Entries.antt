@@ -68,6 +68,11 @@ pub every-at : (P : ℤ → Type 0) (xs : List ℤ) → ((i : ℕ) → P (at xs 
 every-at P [] p = tt
 every-at P (x ∷ xs) p = (p 0, every-at P xs (λ i. p (suc i)))
 
+pub every-get : (P : ℤ → Type 0) (xs : List ℤ) → Every P xs → (i : ℕ) → i < length xs → P (at xs i)
+every-get P [] p i h = absurd (not-suc-le-zero h)
+every-get P (x ∷ xs) p zero h = p .0
+every-get P (x ∷ xs) p (suc i) h = every-get P xs (p .1) i (le-of-suc-le-suc h)
+
 -- ---- what holds of 0 and of each number that a list is made of holds of every entry, also past the end
 module _ (P : ℤ → Type 0) (none : P (pos 0)) where
   pub each-append : (xs ys : List ℤ) → ((i : ℕ) → P (at xs i)) → ((i : ℕ) → P (at ys i)) → (i : ℕ) → P (at (xs ++ ys) i)

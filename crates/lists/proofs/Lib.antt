@@ -1,8 +1,7 @@
 -- Signed: a signed local, and the entries of an array of signed numbers. Entries: entries of lists that are made from others.
--- Search: a loop that looks for an entry. Fill, Ends, Place, Fold, Count, Grow: loops that fill an array, fill one from both ends, put a list into one, fold one, go by a count, and feed on what they made. Table: a rule of a whole table, by one test.
+-- Fill, Ends, Place, Fold, Count, Grow: loops that fill an array, fill one from both ends, put a list into one, fold one, go by a count, and feed on what they made. Table: a rule of a whole table, by one test.
 pub mod Signed
 pub mod Entries
-pub mod Search
 pub mod Fill
 pub mod Ends
 pub mod Place

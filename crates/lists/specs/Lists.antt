@@ -1,6 +1,6 @@
 -- Lists of integers by their entries, and steps that are counted: what the definitions of all stages are written with. What holds of every entry of a list.
 use Prim.Native.Nat.{ℕ, zero, suc}
-use mathlib.Core.Bool.{Bool, false, cond}
+use mathlib.Core.Bool.{Bool, false}
 use mathlib.Core.List.{List, [], _∷_, _++_}
 use lib.Dec.{eqb}
 use lib.IntN.{ℤ, pos, negsuc, negℤ}
@@ -45,11 +45,6 @@ pairwise f (x ∷ xs) (y ∷ ys) = f x y ∷ pairwise f xs ys
 -- y with one entry more, which is made from y: step n of a recursion that feeds on its own entries
 abbrev pub grow : (ℕ → List ℤ → ℤ) → ℕ → List ℤ → List ℤ
 grow g n y = y ++ (g n y ∷ [])
-
--- the place of the first entry that fails the test, or the length where none does
-unfoldable pub firstNot : (ℤ → Bool) → List ℤ → ℕ
-firstNot p [] = 0
-firstNot p (x ∷ xs) = cond (p x) (suc (firstNot p xs)) 0
 
 -- P holds of every entry
 abbrev pub Every : {A : Type 0} → (A → Type 0) → List A → Type 0

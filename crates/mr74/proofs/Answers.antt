@@ -15,12 +15,12 @@ use Rattle.decoder.proofs.Results.{Held}
 use Rattle.postfilter.specs.declared.Frame.{Frame as Post·Frame}
 use Rattle.postfilter.specs.Postfilter.{processed}
 use Rattle.state.specs.declared.State.{State}
-use Rattle.state.specs.declared.Outcome.{Outcome}
-use Rattle.state.specs.Outcome.{isAccepted}
+use Rattle.outcome.specs.declared.Outcome.{Outcome}
+use Rattle.outcome.specs.Outcome.{isAccepted}
 use Rattle.mr74.specs.declared.Decoded.{Decoded}
 use Rattle.mr74.specs.declared.FrameAnswer.{FrameAnswer}
 use Rattle.mr74.specs.Sheet.{lsfsOf, subframesOf}
-use Rattle.mr74.specs.Verdict.{verdict}
+use Rattle.mr74.specs.Checks.{frameOutcome}
 use Rattle.mr74.specs.Frame.{called, coreOf, turnsOf, flagsOf, frameTrace, frameCall}
 use Rattle.mr74.specs.Inner.{decodedOf, refusal}
 use Rattle.mr74.proofs.Turns.{ran-flags}
@@ -39,11 +39,11 @@ module _ (sheet : List ℤ) (s : State) where
   decoded-are h ef eq el = rw (el, eq, ef, core-flags h)
 
   module _ (out : List ℤ) where
-    pub answer-accepted : {o : Outcome} {d : Decoded} {lent : List ℤ} → o ≡ verdict sheet s (length out) → isAccepted o ≡ true → d ≡ decodedOf sheet s → lent ≡ d .samples
+    pub answer-accepted : {o : Outcome} {d : Decoded} {lent : List ℤ} → o ≡ frameOutcome sheet s (length out) → isAccepted o ≡ true → d ≡ decodedOf sheet s → lent ≡ d .samples
         → called (record { outcome = o; rows = d .rows; flags = d .flags; next = d .next }) lent ≡ frameCall sheet s out
     unfolding frameCall frameTrace decodedOf
     answer-accepted eo ea ed el = rw (el, ed, ← eo, ea)
 
-    pub answer-refused : {o : Outcome} {r : FrameAnswer} → o ≡ verdict sheet s (length out) → isAccepted o ≡ false → r ≡ refusal o s → called r out ≡ frameCall sheet s out
+    pub answer-refused : {o : Outcome} {r : FrameAnswer} → o ≡ frameOutcome sheet s (length out) → isAccepted o ≡ false → r ≡ refusal o s → called r out ≡ frameCall sheet s out
     unfolding frameCall frameTrace
     answer-refused eo ea er = rw (er, ← eo, ea)

@@ -1,6 +1,6 @@
--- Sheets: a sheet's lags and indices. Passed: what an accepted call has shown. Verdicts: the verdict, row by row. Turns: the four subframes. Answers: the call's answer from its parts.
+-- Sheets: a sheet's lags and parameters. Checks: the groups of checks. Passed: what an accepted call has shown. Turns: the four subframes. Answers: the call's answer from its parts.
 pub mod Sheets
+pub mod Checks
 pub mod Passed
-pub mod Verdicts
 pub mod Turns
 pub mod Answers

@@ -1,18 +1,15 @@
--- Stretches of a sheet, its lags, and its indices tested one by one. Assumes nothing.
+-- A sheet's lags and parameters. Assumes nothing.
 use Prim.Native.Nat.{ℕ, _+_, _*_, _≤_}
 use mathlib.Core.Path.{_≡_, refl, ap, _∙_}
-use mathlib.Core.Bool.{Bool, true, false, not}
 use mathlib.Core.List.{List, [], _∷_, map}
 use native.Mathlib.Omega.{arith}
 use lib.Dec.{T, ltb, leb→le}
 use lib.IntN.{ℤ, pos, negsuc, natAbs}
 use lib.ListN.{length, getD}
-use lib.Seq.{drop-cons}
-use lib.Signed.{_≤ℤ_, leZ, ltZ, nonNeg}
+use lib.Signed.{_≤ℤ_, nonNeg}
 use mir.Syntax.{w8}
 use mir.Val.{Fits}
 use Rattle.lists.specs.Lists.{at}
-use Rattle.basicop.proofs.Tests.{at-most-yes, at-most-no, no-less, yes-less}
 use Rattle.pitch.specs.declared.PitchLag.{PitchLag}
 use Rattle.pitch.specs.Lag.{Lag, absolute, relative, lagOf, pitchLag}
 use Rattle.pitch.proofs.Lags.{Lawful, absolute-lawful, relative-lawful, lag-of}
@@ -20,63 +17,13 @@ use Rattle.decoder.specs.Core.{Lags}
 use Rattle.mr74.specs.declared.FourLags.{FourLags}
 use Rattle.decoder.specs.declared.Parameters.{Parameters}
 use Rattle.decoder.specs.declared.Subframes.{Subframes}
-use Rattle.mr74.specs.Sheet.{indicesOf, lagsOf, innovationOf, parametersOf, subframesOf}
+use Rattle.mr74.specs.Sheet.{lagsOf, innovationOf, parametersOf, subframesOf}
 use Rattle.mr74.specs.Inner.{Ready, fourLags}
-use Rattle.mr74.specs.Verdict.{within, firstIndexOutside, firstPitch}
 
 -- ---- a pitch index as a byte
 pub byte-fits : (z : ℤ) → pos 0 ≤ℤ z → z ≤ℤ pos 255 → (T (nonNeg z) × Fits w8 (natAbs z)) × (pos (natAbs z) ≡ z)
 byte-fits (pos n) h k = ((tt, record { fits = omega (arith, leb→le n 255 (k .le)) }), refl)
 byte-fits (negsuc n) h k = absurd (h .le)
-
--- ---- an index tested
-pub within-below : (limit index : ℤ) → ltZ index (pos 0) ≡ true → false ≡ within limit index
-within-below limit index e = rw e
-
-pub within-by : (limit index : ℤ) → ltZ index (pos 0) ≡ false → leZ index limit ≡ within limit index
-within-by limit index e = rw e (go (leZ index limit) refl)
-  where
-    go : (b : Bool) → leZ index limit ≡ b → b ≡ not (ltZ limit index)
-    go true k = rw (no-less limit index (at-most-yes k))
-    go false k = rw (yes-less limit index (at-most-no index limit k))
-
--- ---- the four indices
-module _ (sheet : List ℤ) (e : length sheet ≡ 182) where
-  pub indices-are : indicesOf sheet ≡ at sheet 10 ∷ at sheet 11 ∷ at sheet 12 ∷ at sheet 13 ∷ []
-  indices-are =
-      rw (drop-cons sheet 10 (pos 0) (omega (arith, e)), drop-cons sheet 11 (pos 0) (omega (arith, e)), drop-cons sheet 12 (pos 0) (omega (arith, e)), drop-cons sheet 13 (pos 0) (omega (arith, e)))
-
-  abbrev a : Bool
-  a = within (pos 255) (at sheet 10)
-
-  abbrev b : Bool
-  b = within (pos 31) (at sheet 11)
-
-  abbrev c : Bool
-  c = within (pos 255) (at sheet 12)
-
-  abbrev d : Bool
-  d = within (pos 31) (at sheet 13)
-
-  pub pitch-0 : a ≡ false → 0 ≡ firstPitch (indicesOf sheet)
-  unfolding firstIndexOutside
-  pitch-0 x = rw (indices-are, x)
-
-  pub pitch-1 : a ≡ true → b ≡ false → 1 ≡ firstPitch (indicesOf sheet)
-  unfolding firstIndexOutside
-  pitch-1 w x = rw (indices-are, w, x)
-
-  pub pitch-2 : a ≡ true → b ≡ true → c ≡ false → 2 ≡ firstPitch (indicesOf sheet)
-  unfolding firstIndexOutside
-  pitch-2 v w x = rw (indices-are, v, w, x)
-
-  pub pitch-3 : a ≡ true → b ≡ true → c ≡ true → d ≡ false → 3 ≡ firstPitch (indicesOf sheet)
-  unfolding firstIndexOutside
-  pitch-3 u v w x = rw (indices-are, u, v, w, x)
-
-  pub pitch-4 : a ≡ true → b ≡ true → c ≡ true → d ≡ true → 4 ≡ firstPitch (indicesOf sheet)
-  unfolding firstIndexOutside
-  pitch-4 u v w x = rw (indices-are, u, v, w, x)
 
 -- ---- the lags
 pub lags-are : (sheet : List ℤ) {a b c d : PitchLag} {i j k l : ℕ} → pos i ≡ at sheet 10 → pos j ≡ at sheet 11 → pos k ≡ at sheet 12 → pos l ≡ at sheet 13

@@ -9,11 +9,11 @@ use Rattle.lpc.specs.declared.Rows.{Rows}
 use Rattle.decoder.specs.Core.{Turn, Turns, Decoded, decoded, toldRun}
 use Rattle.postfilter.specs.Postfilter.{Processed, processed}
 use Rattle.state.specs.declared.State.{State}
-use Rattle.state.specs.declared.Outcome.{Outcome}
-use Rattle.state.specs.Outcome.{isAccepted}
+use Rattle.outcome.specs.declared.Outcome.{Outcome}
+use Rattle.outcome.specs.Outcome.{isAccepted}
 use Rattle.mr74.specs.declared.FrameAnswer.{FrameAnswer}
 use Rattle.mr74.specs.Sheet.{lsfsOf, Lags, lagsOf, subframesOf}
-use Rattle.mr74.specs.Verdict.{verdict}
+use Rattle.mr74.specs.Checks.{frameOutcome}
 
 -- ---- a frame, of an accepted sheet and state
 -- the core takes and gives the core's part of the state alone
@@ -84,7 +84,7 @@ refusedTrace o s out = record { outcome = o; rows = zeroRows; lags = []; turns =
 -- of a sheet, a state and the lent output
 unfoldable pub frameTrace : List ℤ → State → List ℤ → Trace
 frameTrace sheet s out =
-    let o = verdict sheet s (length out) in
+    let o = frameOutcome sheet s (length out) in
     cond (isAccepted o) (acceptedTrace o sheet s) (refusedTrace o s out)
 
 -- ---- what the call gives: its answer, and the lent output afterwards

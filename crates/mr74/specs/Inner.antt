@@ -9,14 +9,14 @@ use Rattle.lists.specs.Lists.{at}
 use Rattle.pitch.specs.Lag.{pitchLag}
 use Rattle.spectral.specs.Lsp.{Frequencies}
 use Rattle.state.specs.declared.State.{State}
-use Rattle.state.specs.declared.Outcome.{Outcome}
+use Rattle.outcome.specs.declared.Outcome.{Outcome}
 use Rattle.mr74.specs.declared.FourLags.{FourLags}
 use Rattle.mr74.specs.declared.Decoded.{Decoded}
 use Rattle.mr74.specs.declared.FrameAnswer.{FrameAnswer}
 use Rattle.mr74.specs.Sheet.{lsfsOf, Lags}
 use Rattle.mr74.specs.Frame.{coreOf, postOf, nextOf, turnsOf, flagsOf, zeroRows}
 
--- a sheet that has passed rows 1, 2 and 3
+-- a sheet that has passed the checks 1, 2 and 3
 pub record Ready (sheet : List ℤ) : Type 0 where
   pub count : length sheet ≡ 182
   pub lsfs : Frequencies (lsfsOf sheet)

@@ -1,4 +1,4 @@
 pub mod Sheet
-pub mod Verdict
+pub mod Checks
 pub mod Frame
 pub mod Inner

@@ -1,13 +1,14 @@
 // The frame call of MR74.
 ghost use mathlib.Core.Path.{_≡_};
 ghost use mathlib.Core.List.{map};
-ghost use Prim.Native.Nat.{ℕ, _+_, _*_, _<_};
+ghost use Prim.Native.Nat.{ℕ, _+_, _*_, _≤_, _<_};
 ghost use lib.Dec.{ltb};
 ghost use lib.IntN.{pos};
 ghost use lib.ListN.{length};
 ghost use lib.Signed.{_≤ℤ_};
-ghost use Rattle.mr74.specs.Sheet.{lsfsOf, indicesOf, lagsOf, innovationOf, parametersOf, subframesOf};
-ghost use Rattle.mr74.specs.Verdict.{within, firstPitch, firstNegative, verdict};
+ghost use Rattle.outcome.specs.Checks.{firstMet};
+ghost use Rattle.mr74.specs.Sheet.{lsfsOf, lagsOf, innovationOf, parametersOf, subframesOf};
+ghost use Rattle.mr74.specs.Checks.{lengthChecks, lsfChecks, pitchChecks, gainChecks, sheetChecks, frameOutcome};
 ghost use Rattle.mr74.specs.Frame.{called, frameCall};
 ghost use Rattle.mr74.specs.Inner.{Ready, fourLags, decodedOf, refusal};
 use basicop::Q1;
@@ -15,8 +16,8 @@ use basicop::Q14;
 use decoder::Parameters;
 use decoder::Subframes;
 use lpc::Rows;
+use outcome::Outcome;
 use pitch::PitchLag;
-use state::Outcome;
 use state::State;
 
 // What the frame call gives beside the lent samples.
@@ -110,73 +111,87 @@ fn subframes(sheet: &[i16]) -> Subframes
 }
 
 // ---- what turns a call back
-fn in_range(index: i16, limit: i16) -> bool
-    ensures { λ r. ⌜ r ≡ within limit index ⌝ }
+// 1 and 5: the sheet's count of numbers, and the room for samples.
+fn check_lengths(count: usize, numbers: usize, room: usize) -> Outcome
+    ensures { λ r. ⌜ r ≡ firstMet (lengthChecks count numbers room) ⌝ }
 {
-    if index < 0 {
-        return false;
-    }
-    index <= limit
-}
-
-// The first subframe whose pitch index is outside its range, 4 where none is.
-fn first_pitch(sheet: &[i16]) -> usize
-    requires { ⌜ length (now sheet) ≡ 182 ⌝ }
-    ensures { λ r. ⌜ r ≡ firstPitch (indicesOf (now (sheet .entry))) ⌝ }
-{
-    if !in_range(sheet[10], 255) {
-        return 0;
-    }
-    if !in_range(sheet[11], 31) {
-        return 1;
-    }
-    if !in_range(sheet[12], 255) {
-        return 2;
-    }
-    if !in_range(sheet[13], 31) {
-        return 3;
-    }
-    4
-}
-
-// The place of the first negative gain, the count where none is.
-fn first_negative(gains: &[i16]) -> usize
-    ensures { λ r. ⌜ r ≡ firstNegative (now (gains .entry)) ⌝ }
-{
-    let mut i = 0;
-    while i < gains.len() {
-        let gain = gains[i];
-        if gain < 0 {
-            return i;
-        }
-        i += 1;
-    }
-    i
-}
-
-// The first row of the frame order 1, 5, 2, 3, 4, 16, 17 that is met.
-fn validate(sheet: &[i16], state: State, room: usize) -> Outcome
-    ensures { λ r. ⌜ r ≡ verdict (now (sheet .entry)) state room ⌝ }
-{
-    if sheet.len() != 182 {
+    if numbers != count {
         return Outcome::SheetLength;
     }
     if room != 160 {
         return Outcome::OutputLength;
     }
-    let lsf = spectral::first_outside(lsfs(sheet));
-    if lsf < 10 {
-        return Outcome::Lsf(lsf);
+    Outcome::Accepted
+}
+
+// 2.
+fn check_lsfs(sheet: &[i16]) -> Outcome
+    requires { ⌜ 10 ≤ length (now sheet) ⌝ }
+    ensures { λ r. ⌜ r ≡ firstMet (lsfChecks (now (sheet .entry))) ⌝ }
+{
+    let limits = [16384i16; 10];
+    let place = outcome::first_outside(&sheet[0..10], &limits);
+    if place < 10 {
+        return Outcome::Lsf(place);
     }
-    let pitch = first_pitch(sheet);
-    if pitch < 4 {
-        return Outcome::PitchIndex(pitch);
+    Outcome::Accepted
+}
+
+// 3.
+fn check_pitch(sheet: &[i16]) -> Outcome
+    requires { ⌜ 14 ≤ length (now sheet) ⌝ }
+    ensures { λ r. ⌜ r ≡ firstMet (pitchChecks (now (sheet .entry))) ⌝ }
+{
+    let limits = [255i16, 31, 255, 31];
+    let place = outcome::first_outside(&sheet[10..14], &limits);
+    if place < 4 {
+        return Outcome::PitchIndex(place);
     }
-    let gain = first_negative(&sheet[14..22]);
-    if gain < 8 {
-        return Outcome::Gain(gain);
+    Outcome::Accepted
+}
+
+// 4.
+fn check_gains(sheet: &[i16]) -> Outcome
+    requires { ⌜ 22 ≤ length (now sheet) ⌝ }
+    ensures { λ r. ⌜ r ≡ firstMet (gainChecks (now (sheet .entry))) ⌝ }
+{
+    let limits = [32767i16; 8];
+    let place = outcome::first_outside(&sheet[14..22], &limits);
+    if place < 8 {
+        return Outcome::Gain(place);
     }
-    state::validate(state)
+    Outcome::Accepted
+}
+
+// The numbers of a frame sheet.
+fn check_sheet(sheet: &[i16]) -> Outcome
+    requires { ⌜ length (now sheet) ≡ 182 ⌝ }
+    ensures { λ r. ⌜ r ≡ firstMet (sheetChecks (now (sheet .entry))) ⌝ }
+{
+    let lsfs = check_lsfs(sheet);
+    if !lsfs.accepted() {
+        return lsfs;
+    }
+    let pitch = check_pitch(sheet);
+    if !pitch.accepted() {
+        return pitch;
+    }
+    check_gains(sheet)
+}
+
+// In the frame order 1, 5, 2, 3, 4, 16, 17.
+fn check_frame(sheet: &[i16], state: State, room: usize) -> Outcome
+    ensures { λ r. ⌜ r ≡ frameOutcome (now (sheet .entry)) state room ⌝ }
+{
+    let lengths = check_lengths(182, sheet.len(), room);
+    if !lengths.accepted() {
+        return lengths;
+    }
+    let numbers = check_sheet(sheet);
+    if !numbers.accepted() {
+        return numbers;
+    }
+    state::check_state(state)
 }
 
 // ---- the call
@@ -256,7 +271,7 @@ fn refused(outcome: Outcome, state: State) -> FrameAnswer
 pub fn frame(sheet: &[i16], state: State, out: &mut [i16]) -> FrameAnswer
     ensures { λ r. ⌜ called r (now (out .exit)) ≡ frameCall (now (sheet .entry)) state (now (out .entry)) ⌝ }
 {
-    let outcome = validate(sheet, state, out.len());
+    let outcome = check_frame(sheet, state, out.len());
     if outcome.accepted() {
         let decoded = decode(sheet, state);
         let samples = decoded.samples;

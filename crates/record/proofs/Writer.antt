@@ -7,15 +7,16 @@ use native.Mathlib.Omega.{arith}
 use lib.IntN.{pos}
 use lib.ListN.{length, set, length-append}
 use borrow.Rule.Slice.PartMut.{putMid}
-use borrow.Author.Tests.{eq-eqb, ne-eqb}
+use borrow.Author.Tests.{eqb-true, not-false}
+use Rattle.outcome.specs.declared.Outcome.{Outcome}
+use Rattle.outcome.specs.Outcome.{isAccepted}
+use Rattle.outcome.specs.Checks.{firstMet}
+use Rattle.outcome.proofs.Checks.{both-accept, none-met}
 use Rattle.state.specs.declared.State.{State}
-use Rattle.state.specs.declared.Outcome.{Outcome}
-use Rattle.state.specs.declared.Outcome.the-variants.{OutputLength}
-use Rattle.state.specs.Outcome.{firstMet, isAccepted}
-use Rattle.state.specs.State.{stateVerdict, numbersOf}
+use Rattle.state.specs.State.{stateChecks, numbersOf}
 use Rattle.coding.specs.Bytes.{bytesOf}
 use Rattle.coding.proofs.Laid.{bytes-length, Laid, laid-none, laid-more, laid-done}
-use Rattle.record.specs.Record.{trailerBytes, encoded, writeRows, written, writeCall}
+use Rattle.record.specs.Record.{trailerBytes, encoded, roomChecks, writeChecks, written, writeCall}
 
 -- the first two bytes are set
 tag-set : (out : List ℕ) → length out ≡ 8 → Laid 8 (0x4D ∷ 0x37 ∷ []) (set (set out 0 0x4D) 1 0x37)
@@ -41,21 +42,16 @@ module _ (s : State) (out y₁ y₂ : List ℕ) where
       let s₂ = laid-more 394 8 y₂ trailerBytes s₁ l₁ trailer-length (omega arith) e₂ in
       laid-done s₂ k ∙ ap (λ (l : List ℕ). l ++ trailerBytes) e₁
 
--- ---- the call
-module _ (s : State) (out : List ℕ) where
-  pub write-length : (length out ≡ 402 → ⊥) → written OutputLength out ≡ writeCall s out
-  unfolding writeCall firstMet
-  write-length h = rw (ne-eqb _ _ h)
+-- ---- the call, of what its outcome is found to be
+module _ (s : State) (out : List ℕ) {o : Outcome} (e : o ≡ firstMet (writeChecks s (length out))) where
+  pub write-accepted : isAccepted o ≡ true → (last : List ℕ) → last ≡ encoded s → written o last ≡ writeCall s out
+  unfolding writeCall
+  write-accepted y last f = rw (← e, y) (ap (written o) f)
 
-  module _ (h : length out ≡ 402) (o : Outcome) (e : o ≡ stateVerdict s) where
-    rows-are : o ≡ firstMet (writeRows s out)
-    unfolding firstMet stateVerdict
-    rows-are = e ∙ rw (eq-eqb _ _ h)
+  pub write-refused : isAccepted o ≡ false → written o out ≡ writeCall s out
+  unfolding writeCall
+  write-refused n = rw (← e, n)
 
-    pub write-accepted : isAccepted o ≡ true → (last : List ℕ) → last ≡ encoded s → written o last ≡ writeCall s out
-    unfolding writeCall
-    write-accepted y last f = rw (← rows-are, y) (ap (written o) f)
-
-    pub write-refused : isAccepted o ≡ false → written o out ≡ writeCall s out
-    unfolding writeCall
-    write-refused n = rw (← rows-are, n)
+-- an accepted call was lent the room of a record
+pub room-accepted : (s : State) (room : ℕ) → isAccepted (firstMet (writeChecks s room)) ≡ true → room ≡ 402
+room-accepted s room y = eqb-true room 402 (not-false _ (none-met (roomChecks room) tt (both-accept (roomChecks room) (stateChecks s) tt y .0) .0))

@@ -4,20 +4,20 @@ use mathlib.Core.Bool.{true}
 use mathlib.Core.List.{List, _++_}
 use Prim.Native.Nat.{ℕ}
 use lib.ListN.{length, drop}
+use Rattle.outcome.specs.declared.Outcome.the-variants.{Accepted}
+use Rattle.outcome.specs.Outcome.{isAccepted}
 use Rattle.state.specs.declared.State.{State}
-use Rattle.state.specs.declared.Outcome.the-variants.{Accepted}
-use Rattle.state.specs.Outcome.{isAccepted}
-use Rattle.state.specs.State.{WellFormed, stateVerdict}
+use Rattle.state.specs.State.{WellFormed, stateOutcome}
 use Rattle.coding.specs.Bytes.{Bytes}
 use Rattle.record.specs.Record.{told, versionOf, readCall, encoded}
 
 -- what was written is read back, behind any note, with that note
 abbrev pub ReadBack : Type 0
-ReadBack = (s : State) → WellFormed s → stateVerdict s ≡ Accepted → (note : List ℕ) → readCall (note ++ encoded s) ≡ told (record { outcome = Accepted; state = s }) note
+ReadBack = (s : State) → WellFormed s → stateOutcome s ≡ Accepted → (note : List ℕ) → readCall (note ++ encoded s) ≡ told (record { outcome = Accepted; state = s }) note
 
--- the record of a well-formed state, behind any note, is accepted exactly when rows 16 and 17 pass the state: it is turned back by the same row
-abbrev pub SameVerdict : Type 0
-SameVerdict = (s : State) → WellFormed s → (note : List ℕ) → readCall (note ++ encoded s) .answer .outcome ≡ stateVerdict s
+-- the record of a well-formed state, behind any note, is accepted exactly when the checks of the state pass it: it is turned back by the same check
+abbrev pub SameOutcome : Type 0
+SameOutcome = (s : State) → WellFormed s → (note : List ℕ) → readCall (note ++ encoded s) .answer .outcome ≡ stateOutcome s
 
 -- two accepted records of the same version that give the same state differ at most in their notes
 abbrev pub SameRest : Type 0

@@ -6,12 +6,12 @@ use Prim.Native.Nat.{ℕ, _+_, _-_}
 use lib.Dec.{eqb, ltb}
 use lib.IntN.{ℤ, pos}
 use lib.ListN.{length, take, drop, getD, replicate}
-use Rattle.lists.specs.Lists.{at}
+use Rattle.outcome.specs.declared.Outcome.{Outcome}
+use Rattle.outcome.specs.declared.Outcome.the-variants.{OutputLength, RecordShort, Tag, Version, Layout, BodyShort}
+use Rattle.outcome.specs.Outcome.{isAccepted}
+use Rattle.outcome.specs.Checks.{Check, check, firstMet}
 use Rattle.state.specs.declared.State.{State}
-use Rattle.state.specs.declared.Outcome.{Outcome}
-use Rattle.state.specs.declared.Outcome.the-variants.{OutputLength, RecordShort, Tag, Version, Layout, BodyShort}
-use Rattle.state.specs.Outcome.{Row, row, firstMet, isAccepted}
-use Rattle.state.specs.State.{stateRows, stateOf, numbersOf}
+use Rattle.state.specs.State.{stateChecks, stateOf, numbersOf}
 use Rattle.record.specs.declared.Answer.{Answer}
 use Rattle.coding.specs.Bytes.{unsigned, words, bytesOf}
 
@@ -38,17 +38,18 @@ trailerOf v [] = record { version = v; distance = 0; count = 0 }
 trailerOf v (t ∷ ts) = cond (eqb v (t .version)) t (trailerOf v ts)
 
 -- ---- the parts of a record, by its last 8 bytes
-abbrev pub byteAt : List ℕ → ℕ → ℕ
-byteAt b k = getD (drop (length b - 8) b) k 0
+abbrev pub endOf : List ℕ → List ℕ
+endOf b = drop (length b - 8) b
 
+-- of 8 bytes: a number in two of them, and whether they begin with the tag
 abbrev pub fieldAt : List ℕ → ℕ → ℕ
-fieldAt b k = unsigned (byteAt b k) (byteAt b (k + 1))
+fieldAt t k = unsigned (getD t k 0) (getD t (k + 1) 0)
 
 abbrev pub tagged : List ℕ → Bool
-tagged b = eqb (byteAt b 0) 0x4D && eqb (byteAt b 1) 0x37
+tagged t = eqb (getD t 0 0) 0x4D && eqb (getD t 1 0) 0x37
 
 abbrev pub versionOf : List ℕ → ℕ
-versionOf b = fieldAt b 2
+versionOf b = fieldAt (endOf b) 2
 
 -- how far before the trailer the body begins, by the record's version
 abbrev pub distanceOf : List ℕ → ℕ
@@ -65,30 +66,40 @@ abbrev pub numbersIn : List ℕ → List ℤ
 numbersIn b = words (take (distanceOf b) (drop (noteLength b) b))
 
 -- ---- the reader
--- 12: tag differs; 13: unknown version; 14: distance or count is not the version's
-abbrev pub trailerRows : List ℕ → List Row
-trailerRows b =
-    let t = trailerOf (versionOf b) versions in
-    row (not (tagged b)) Tag ∷
-    row (not (known (versionOf b) versions)) Version ∷
-    row (not (eqb (fieldAt b 4) (t .distance) && eqb (fieldAt b 6) (t .count))) Layout ∷
+-- 11: under 8 bytes
+abbrev pub sizeChecks : ℕ → List Check
+sizeChecks size = check (ltb size 8) RecordShort ∷ []
+
+-- of the last 8 bytes. 12: tag differs; 13: unknown version; 14: distance or count is not the version's
+abbrev pub trailerChecks : List ℕ → List Check
+trailerChecks t =
+    let v = trailerOf (fieldAt t 2) versions in
+    check (not (tagged t)) Tag ∷
+    check (not (known (fieldAt t 2) versions)) Version ∷
+    check (not (eqb (fieldAt t 4) (v .distance) && eqb (fieldAt t 6) (v .count))) Layout ∷
     []
 
--- 15: fewer bytes before the trailer than the version's distance; then those of the state, of two of the body's numbers
-abbrev pub bodyRows : List ℕ → List Row
-bodyRows b =
-    row (ltb (length b - 8) (distanceOf b)) BodyShort ∷
-    stateRows (at (numbersIn b) 164) (at (numbersIn b) 196)
+-- 15: fewer bytes before the trailer than the version's distance
+abbrev pub bodyChecks : ℕ → ℕ → List Check
+bodyChecks before distance = check (ltb before distance) BodyShort ∷ []
 
--- 11: under 8 bytes; then 12 to 17
-abbrev pub recordRows : List ℕ → List Row
-recordRows b = row (ltb (length b) 8) RecordShort ∷ trailerRows b ++ bodyRows b
+-- 11 to 15: what is tested of the bytes
+abbrev pub byteChecks : List ℕ → List Check
+byteChecks b = sizeChecks (length b) ++ (trailerChecks (endOf b) ++ bodyChecks (length b - 8) (distanceOf b))
 
-unfoldable pub recordVerdict : List ℕ → Outcome
-recordVerdict b = firstMet (recordRows b)
+-- then what is tested of the state in them
+abbrev pub recordChecks : List ℕ → List Check
+recordChecks b = byteChecks b ++ stateChecks (stateOf (numbersIn b))
+
+unfoldable pub recordOutcome : List ℕ → Outcome
+recordOutcome b = firstMet (recordChecks b)
 
 abbrev pub zeroState : State
 zeroState = stateOf (replicate 197 (pos 0))
+
+-- a refused read gives the all-zero state
+abbrev pub refusedAnswer : Outcome → Answer
+refusedAnswer o = record { outcome = o; state = zeroState }
 
 -- what the reader gives: the answer, and the note
 pub record Told : Type 0 where
@@ -98,13 +109,13 @@ pub record Told : Type 0 where
 abbrev pub told : Answer → List ℕ → Told
 told answer note = record { answer = answer; note = note }
 
--- a refused read gives the all-zero state and an empty note
+-- and an empty note
 unfoldable pub readCall : List ℕ → Told
 readCall b =
-    let o = recordVerdict b in
+    let o = recordOutcome b in
     cond (isAccepted o)
     (told (record { outcome = o; state = stateOf (numbersIn b) }) (noteOf b))
-    (told (record { outcome = o; state = zeroState }) [])
+    (told (refusedAnswer o) [])
 
 -- ---- the writer
 abbrev pub trailerBytes : List ℕ
@@ -118,8 +129,13 @@ encoded s = bytesOf (numbersOf s) ++ trailerBytes
 abbrev pub recordLength : ℕ
 recordLength = current .distance + 8
 
-abbrev pub writeRows : State → List ℕ → List Row
-writeRows s out = row (not (eqb (length out) recordLength)) OutputLength ∷ stateRows (s .core .sharpening .0) (s .post .gain .«previous_gain»)
+-- 5: no room for them
+abbrev pub roomChecks : ℕ → List Check
+roomChecks room = check (not (eqb room recordLength)) OutputLength ∷ []
+
+-- of a state and the length of the lent bytes
+abbrev pub writeChecks : State → ℕ → List Check
+writeChecks s room = roomChecks room ++ stateChecks s
 
 -- the outcome, and the lent bytes afterwards
 pub record Written : Type 0 where
@@ -131,5 +147,5 @@ written outcome lent = record { outcome = outcome; lent = lent }
 
 unfoldable pub writeCall : State → List ℕ → Written
 writeCall s out =
-    let o = firstMet (writeRows s out) in
+    let o = firstMet (writeChecks s (length out)) in
     cond (isAccepted o) (written o (encoded s)) (written o out)

@@ -2,19 +2,18 @@
 ghost use mathlib.Core.Path.{_≡_};
 ghost use lib.ListN.{length};
 ghost use denote.Ref.{ptr};
-ghost use Rattle.lists.specs.Lists.{at};
-ghost use Rattle.state.specs.Outcome.{firstMet};
-ghost use Rattle.state.specs.State.{stateRows};
-ghost use Rattle.coding.specs.Bytes.{words};
-ghost use Rattle.record.specs.Record.{trailerRows, zeroState, recordVerdict, readCall, told, trailerBytes, encoded, written, writeCall};
+ghost use Rattle.outcome.specs.Checks.{firstMet};
+ghost use Rattle.record.specs.Record.{sizeChecks, trailerChecks, bodyChecks, byteChecks, refusedAnswer, readCall, told, trailerBytes, encoded, roomChecks, writeChecks, written, writeCall};
 use basicop::Q14;
 use decoder::Core;
 use energy::GainControl;
+use outcome::Outcome;
 use postfilter::Postfilter;
-use state::Outcome;
 use state::State;
 
-// A record without a note: the body's 394 bytes and the trailer's 8.
+const BODY_BYTES: usize = 394;
+
+// A record without a note: the body and the trailer's 8 bytes.
 const RECORD_BYTES: usize = 402;
 
 // The outcome and the state of a read.
@@ -30,10 +29,20 @@ pub struct Reading<'a> {
 }
 
 // ---- the reader
-// Rows 12 to 14, of the last 8 bytes.
-fn validate_trailer(t: &[u8]) -> Outcome
+// 11.
+fn check_size(size: usize) -> Outcome
+    ensures { λ r. ⌜ r ≡ firstMet (sizeChecks size) ⌝ }
+{
+    if size < 8 {
+        return Outcome::RecordShort;
+    }
+    Outcome::Accepted
+}
+
+// 12 to 14, of the last 8 bytes.
+fn check_trailer(t: &[u8]) -> Outcome
     requires { ⌜ length (now t) ≡ 8 ⌝ }
-    ensures { λ r. ⌜ r ≡ firstMet (trailerRows (now (t .entry))) ⌝ }
+    ensures { λ r. ⌜ r ≡ firstMet (trailerChecks (now (t .entry))) ⌝ }
 {
     if t[0] != 0x4D {
         return Outcome::Tag;
@@ -53,70 +62,72 @@ fn validate_trailer(t: &[u8]) -> Outcome
     Outcome::Accepted
 }
 
-// Rows 16 and 17, of the body's numbers 164 and 196.
-fn validate_body(body: &[u8]) -> Outcome
-    requires { ⌜ length (now body) ≡ 394 ⌝ }
-    ensures { λ r. ⌜ r ≡ firstMet (stateRows (at (words (now (body .entry))) 164) (at (words (now (body .entry))) 196)) ⌝ }
+// 15, of the count of bytes before the trailer.
+fn check_body(before: usize, distance: usize) -> Outcome
+    ensures { λ r. ⌜ r ≡ firstMet (bodyChecks before distance) ⌝ }
 {
-    let sharpening = Q14(coding::word(body[328], body[329]));
-    let gain = GainControl {
-        previous_gain: coding::word(body[392], body[393]),
-    };
-    state::validate_numbers(sharpening, gain)
+    if before < distance {
+        return Outcome::BodyShort;
+    }
+    Outcome::Accepted
 }
 
-// Rows 11 to 17.
-fn verdict(bytes: &[u8]) -> Outcome
-    ensures { λ r. ⌜ r ≡ recordVerdict (now (bytes .entry)) ⌝ }
+// 11 to 15.
+fn check_bytes(bytes: &[u8]) -> Outcome
+    ensures { λ r. ⌜ r ≡ firstMet (byteChecks (now (bytes .entry))) ⌝ }
 {
     let n = bytes.len();
-    if n < 8 {
-        return Outcome::RecordShort;
+    let size = check_size(n);
+    if !size.accepted() {
+        return size;
     }
     let end = n - 8;
-    let outcome = validate_trailer(&bytes[end..]);
-    if outcome.accepted() {
-        if n < RECORD_BYTES {
-            return Outcome::BodyShort;
-        }
-        let start = n - RECORD_BYTES;
-        return validate_body(&bytes[start..end]);
+    let trailer = check_trailer(&bytes[end..]);
+    if !trailer.accepted() {
+        return trailer;
     }
-    outcome
+    check_body(end, BODY_BYTES)
 }
 
-fn zero_state() -> State
-    ensures { λ r. ⌜ r ≡ zeroState ⌝ }
+// A refused read gives the all-zero state.
+fn refused(outcome: Outcome) -> Answer
+    ensures { λ r. ⌜ r ≡ refusedAnswer outcome ⌝ }
 {
-    State {
-        core: Core {
-            lsp: [0; 10],
-            past: [0; 154],
-            sharpening: Q14(0),
-            history: [0; 10],
-        },
-        post: Postfilter {
-            input_history: [0; 10],
-            synthesis_history: [0; 10],
-            previous_residual: 0,
-            gain: GainControl { previous_gain: 0 },
+    Answer {
+        outcome,
+        state: State {
+            core: Core {
+                lsp: [0; 10],
+                past: [0; 154],
+                sharpening: Q14(0),
+                history: [0; 10],
+            },
+            post: Postfilter {
+                input_history: [0; 10],
+                synthesis_history: [0; 10],
+                previous_residual: 0,
+                gain: GainControl { previous_gain: 0 },
+            },
         },
     }
 }
 
-// What a read answers beside the note.
+// What a read answers beside the note: 11 to 15 are tested of the bytes, 16 and 17 of the state in them.
 pub fn answer_of(bytes: &[u8]) -> Answer
     ensures { λ r. ⌜ r ≡ readCall (now (bytes .entry)) .answer ⌝ }
 {
-    let outcome = verdict(bytes);
-    if outcome.accepted() {
-        let n = bytes.len();
-        let start = n - RECORD_BYTES;
-        let end = n - 8;
-        let state = coding::state_in(&bytes[start..end]);
-        return Answer { outcome, state };
+    let shape = check_bytes(bytes);
+    if !shape.accepted() {
+        return refused(shape);
     }
-    let state = zero_state();
+    let n = bytes.len();
+    let start = n - RECORD_BYTES;
+    let end = n - 8;
+    let state = coding::state_in(&bytes[start..end]);
+    let outcome = state::check_state(state);
+    if !outcome.accepted() {
+        return refused(outcome);
+    }
     Answer { outcome, state }
 }
 
@@ -124,7 +135,8 @@ pub fn answer_of(bytes: &[u8]) -> Answer
 pub fn note(bytes: &[u8]) -> &[u8]
     ensures { λ r. ⌜ (now r ≡ readCall (now (bytes .entry)) .note) × (ptr r ≡ ptr (bytes .entry)) ⌝ }
 {
-    let outcome = verdict(bytes);
+    let answer = answer_of(bytes);
+    let outcome = answer.outcome;
     if outcome.accepted() {
         let n = bytes.len() - RECORD_BYTES;
         return &bytes[..n];
@@ -160,14 +172,32 @@ fn write_record(state: State, out: &mut [u8])
     write_trailer(&mut out[394..402]);
 }
 
+// 5.
+fn check_room(room: usize) -> Outcome
+    ensures { λ r. ⌜ r ≡ firstMet (roomChecks room) ⌝ }
+{
+    if room != RECORD_BYTES {
+        return Outcome::OutputLength;
+    }
+    Outcome::Accepted
+}
+
+// In the order 5, 16, 17.
+fn check_write(state: State, room: usize) -> Outcome
+    ensures { λ r. ⌜ r ≡ firstMet (writeChecks state room) ⌝ }
+{
+    let length = check_room(room);
+    if !length.accepted() {
+        return length;
+    }
+    state::check_state(state)
+}
+
 // Writes the record of a state, without a note.
 pub fn write(state: State, out: &mut [u8]) -> Outcome
     ensures { λ r. ⌜ written r (now (out .exit)) ≡ writeCall state (now (out .entry)) ⌝ }
 {
-    if out.len() != RECORD_BYTES {
-        return Outcome::OutputLength;
-    }
-    let outcome = state::validate(state);
+    let outcome = check_write(state, out.len());
     if outcome.accepted() {
         write_record(state, out);
         return outcome;

@@ -1,12 +1,8 @@
 -- Lsf_lsp of TS 26.073 (TS 26.090, 5.2.5): line spectral frequencies to their cosines.
 use mathlib.Core.List.{List, [], _∷_, map}
-use mathlib.Core.Path.{_≡_}
-use mathlib.Core.Bool.{Bool, not, _||_}
-use Prim.Native.Nat.{ℕ}
 use lib.IntN.{ℤ, pos, _+ℤ_}
-use lib.ListN.{length}
-use lib.Signed.{ltZ}
-use Rattle.lists.specs.Lists.{minus, entry, firstNot}
+use lib.Signed.{_≤ℤ_}
+use Rattle.lists.specs.Lists.{minus, entry, Every}
 use Rattle.basicop.specs.Ops.{low-bits, add, sub, shr, L-mult, L-shr, extract-l}
 
 -- table: 65 cosines (Q15)
@@ -34,13 +30,6 @@ lspOf lsf =
 abbrev pub lspsOf : List ℤ → List ℤ
 lspsOf lsfs = map lspOf lsfs
 
--- document 01, refusal 2: an LSF lies in 0..=16384
-abbrev pub frequency : ℤ → Bool
-frequency lsf = not (ltZ lsf (pos 0) || ltZ (pos 16384) lsf)
-
--- the first that does not, or the count where all do
-abbrev pub firstOutside : List ℤ → ℕ
-firstOutside lsfs = firstNot frequency lsfs
-
+-- document 01, refusal 2: every LSF lies in 0..=16384
 abbrev pub Frequencies : List ℤ → Type 0
-Frequencies lsfs = firstOutside lsfs ≡ length lsfs
+Frequencies lsfs = Every (λ (lsf : ℤ). (pos 0 ≤ℤ lsf) × (lsf ≤ℤ pos 16384)) lsfs

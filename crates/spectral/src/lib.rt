@@ -2,7 +2,7 @@
 ghost use mathlib.Core.Path.{_≡_};
 ghost use lib.IntN.{pos};
 ghost use lib.Signed.{_≤ℤ_};
-ghost use Rattle.spectral.specs.Lsp.{cosine, between, lspOf, lspsOf, firstOutside, Frequencies};
+ghost use Rattle.spectral.specs.Lsp.{cosine, between, lspOf, lspsOf, Frequencies};
 
 // Q15.
 const COSINE: [i16; 65] = [
@@ -91,22 +91,6 @@ fn frequency_to_cosine(frequency: i16, table: &[i16; 65]) -> i16
         return -32768;
     }
     between(table[f / 256], table[f / 256 + 1], (f % 256) as i16)
-}
-
-// The place of the first frequency outside 0..=16384, 10 where there is none: what the source tests before it converts.
-pub fn first_outside(frequencies: [i16; 10]) -> usize
-    ensures { λ r. ⌜ r ≡ firstOutside frequencies ⌝ }
-{
-    for i in 0..10 {
-        let f = frequencies[i];
-        if f < 0 {
-            return i;
-        }
-        if 16384 < f {
-            return i;
-        }
-    }
-    10
 }
 
 // Ten frequencies, by the table.

@@ -1,4 +1,4 @@
--- The state that is carried between frames: what it holds, and the rows of document 01 that turn it back.
+-- The state that is carried between frames: what it holds, and the checks of document 01 that turn it back.
 use mathlib.Core.Bool.{_||_}
 use mathlib.Core.List.{List, [], _∷_, _++_}
 use Prim.Native.Nat.{ℕ}
@@ -9,10 +9,10 @@ use mir.Syntax.{w16}
 use mir.Val.{SFits}
 use Rattle.lists.specs.Lists.{at}
 use Rattle.basicop.specs.Words.{Words}
+use Rattle.outcome.specs.declared.Outcome.{Outcome}
+use Rattle.outcome.specs.declared.Outcome.the-variants.{Sharpening, SmoothedGain}
+use Rattle.outcome.specs.Checks.{Check, check, firstMet}
 use Rattle.state.specs.declared.State.{State}
-use Rattle.state.specs.declared.Outcome.{Outcome}
-use Rattle.state.specs.declared.Outcome.the-variants.{Sharpening, SmoothedGain}
-use Rattle.state.specs.Outcome.{Row, row, firstMet}
 
 -- 197 numbers of 16 bits: what every state holds that the code can hold
 pub record WellFormed (s : State) : Type 0 where
@@ -26,11 +26,15 @@ pub record WellFormed (s : State) : Type 0 where
   pub previous-gain : SFits w16 (s .post .gain .«previous_gain»)
 
 -- 16: sharpening outside 0..=13017; 17: smoothed gain negative
-abbrev pub stateRows : ℤ → ℤ → List Row
-stateRows sharpening gain = row (ltZ sharpening (pos 0) || ltZ (pos 13017) sharpening) Sharpening ∷ row (ltZ gain (pos 0)) SmoothedGain ∷ []
+abbrev pub stateChecks : State → List Check
+stateChecks s =
+    let sharpening = s .core .sharpening .0 in
+    check (ltZ sharpening (pos 0) || ltZ (pos 13017) sharpening) Sharpening ∷
+    check (ltZ (s .post .gain .«previous_gain») (pos 0)) SmoothedGain ∷
+    []
 
-unfoldable pub stateVerdict : State → Outcome
-stateVerdict s = firstMet (stateRows (s .core .sharpening .0) (s .post .gain .«previous_gain»))
+unfoldable pub stateOutcome : State → Outcome
+stateOutcome s = firstMet (stateChecks s)
 
 -- ---- as 197 numbers
 -- the body of a record: 0..9 previous LSP, 10..163 past excitation, 164 sharpening, 165..174 synthesis history,

@@ -6,7 +6,7 @@ use lib.IntN.{pos}
 use lib.ListN.{replicate, getD, length-replicate}
 use mir.Syntax.{w16}
 use mir.Val.{SFits}
-use Rattle.lists.specs.Lists.{at, iter, tab, firstNot}
+use Rattle.lists.specs.Lists.{at, iter, tab}
 use Rattle.basicop.specs.Ops.{clamp, asr, wrap, add, sub, mult, shl, L-add, L-sub, L-mult, L-shl, L-shr-r, L-deposit-h, doublings, norm-l, div-s, L-Extract, Mpy-32-16}
 use Rattle.basicop.specs.Words.{Words}
 use Rattle.basicop.proofs.Words.{zero-fits}
@@ -28,10 +28,10 @@ use Rattle.postfilter.specs.Residual.{residualSum, residual}
 use Rattle.postfilter.specs.Tilt as tilts
 use Rattle.postfilter.specs.Preemphasis.{preemphasised}
 use Rattle.postfilter.specs.Postfilter.{filtered, processed}
-use Rattle.state.specs.Outcome.{firstMet}
-use Rattle.state.specs.State.{WellFormed, stateVerdict, stateOf}
+use Rattle.outcome.specs.Checks.{firstMet, firstOutside}
+use Rattle.state.specs.State.{WellFormed, stateOutcome, stateOf}
 use Rattle.mr74.specs.Sheet.{lagsOf}
-use Rattle.mr74.specs.Verdict.{firstIndexOutside, verdict}
+use Rattle.mr74.specs.Checks.{frameOutcome}
 use Rattle.mr74.specs.Frame.{frameTrace}
 use Rattle.demand3.specs.Calls.{traceOf, runCalls, anyAccepted, latestFlag}
 use Rattle.values.specs.Examples.{silent, loud, call, Seen, seen, expected, Example, ordered, FrameOrder, placed, Places}
@@ -60,11 +60,11 @@ silent-well-formed =
     }
 
 seen-is : seen (traceOf silent call) ≡ expected
-unfolding iter tab firstNot clamp asr wrap add sub mult shl L-add L-sub L-mult L-shl L-shr-r L-deposit-h doublings norm-l div-s L-Extract Mpy-32-16 absolute lag-min relative cosine between lspOf raisedAt polynomial rowOf rowsOf inter6 phase start interpolated extended predicted sharpened sharpening feedback squares energy energyGain agc2 inverseTable rootScaled rootIndex rootFraction rootBetween inverseRoot outside fed numbersOf leaves leavesAny acc accs enhanced firstExcitation synthesised excited turn ran decoded firstMet stateOf lagsOf firstIndexOutside verdict frameTrace loud silent numerator denominator weighted residualSum residual tilts.impulse tilts.energy tilts.correlation tilts.tiltOf tilts.tilt preemphasised filtered processed agc controlled
+unfolding iter tab clamp asr wrap add sub mult shl L-add L-sub L-mult L-shl L-shr-r L-deposit-h doublings norm-l div-s L-Extract Mpy-32-16 absolute lag-min relative cosine between lspOf raisedAt polynomial rowOf rowsOf inter6 phase start interpolated extended predicted sharpened sharpening feedback squares energy energyGain agc2 inverseTable rootScaled rootIndex rootFraction rootBetween inverseRoot outside fed numbersOf leaves leavesAny acc accs enhanced firstExcitation synthesised excited turn ran decoded firstMet stateOf lagsOf firstOutside frameOutcome frameTrace loud silent numerator denominator weighted residualSum residual tilts.impulse tilts.energy tilts.correlation tilts.tiltOf tilts.tilt preemphasised filtered processed agc controlled
 seen-is = refl
 
 pub example : Example
-unfolding silent stateOf stateVerdict firstMet frameTrace verdict runCalls anyAccepted latestFlag
+unfolding silent stateOf stateOutcome firstMet frameTrace frameOutcome runCalls anyAccepted latestFlag
 example =
     record {
       well-formed = silent-well-formed;
@@ -75,9 +75,9 @@ example =
     }
 
 pub frame-order : FrameOrder
-unfolding ordered stateOf firstMet firstNot firstIndexOutside verdict
+unfolding ordered stateOf firstMet firstOutside frameOutcome
 frame-order = refl
 
 pub places : Places
-unfolding placed stateOf firstMet firstNot firstIndexOutside verdict
+unfolding placed stateOf firstMet firstOutside frameOutcome
 places = refl

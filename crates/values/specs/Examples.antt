@@ -10,10 +10,10 @@ use lib.ListN.{replicate}
 use Rattle.lists.specs.Lists.{minus, at}
 use Rattle.basicop.specs.Ops.{Quotient}
 use Rattle.state.specs.declared.State.{State}
-use Rattle.state.specs.declared.Outcome.the-variants.{Accepted}
-use Rattle.state.specs.Outcome.{numberOf, placeOf}
-use Rattle.state.specs.State.{WellFormed, stateVerdict, stateOf}
-use Rattle.mr74.specs.Verdict.{verdict}
+use Rattle.outcome.specs.declared.Outcome.the-variants.{Accepted}
+use Rattle.outcome.specs.Outcome.{numberOf, placeOf}
+use Rattle.state.specs.State.{WellFormed, stateOutcome, stateOf}
+use Rattle.mr74.specs.Checks.{frameOutcome}
 use Rattle.mr74.specs.Frame.{Trace}
 use Rattle.demand3.specs.Calls.{Call, Frame, traceOf, runCalls, accepted, anyAccepted, latestFlag}
 
@@ -74,7 +74,7 @@ expected =
 pub record Example : Type 0 where
   -- what demand 3 asks of the opening state
   pub well-formed : WellFormed silent
-  pub state : stateVerdict silent ≡ Accepted
+  pub state : stateOutcome silent ≡ Accepted
   pub call : seen (traceOf silent call) ≡ expected
   -- the list meets both conditions: a call was accepted, and the last subframe of the latest accepted one was retried
   pub any : anyAccepted (runCalls silent calls) ≡ true
@@ -91,7 +91,7 @@ refused number place = record { number = number; place = place }
 -- of a sheet, a state as 197 numbers, and an output of `room` samples
 abbrev pub refusal : List ℤ → List ℤ → ℕ → Refusal
 refusal sheet numbers room =
-    let o = verdict sheet (stateOf numbers) room in
+    let o = frameOutcome sheet (stateOf numbers) room in
     refused (numberOf o) (placeOf o)
 
 -- n zeros, and then -1 up to m numbers

@@ -6,7 +6,7 @@ use Prim.Native.Nat.{ℕ, _-_, _*_, _≤_}
 use denote.Ref.{now}
 use lib.IntN.{ℤ, pos}
 use lib.ListN.{length, take, replicate}
-use Rattle.state.specs.Outcome.{isAccepted}
+use Rattle.outcome.specs.Outcome.{isAccepted}
 use borrow.Rule.Slice.PartMut.{putMid}
 use Rattle.mr74.specs.Frame.{Called, called, frameCall}
 use Rattle.capi.specs.Capi.{sheetIn, roomOf, roomIn}

@@ -2,18 +2,18 @@ use mathlib.Core.Path.{ap, sym, _∙_}
 use borrow.Author.Needs.{needs}
 use denote.Ref.{now}
 use lib.ListN.{length}
-use Rattle.state.specs.Outcome.{isAccepted}
+use Rattle.outcome.specs.Outcome.{isAccepted}
 use Rattle.mr74.proofs.Passed.{Passed, passed}
 use Rattle.mr74.proofs.Answers.{answer-accepted, answer-refused}
 use Rattle.mr74.proofs.frame.Statement.{statement}
 use Rattle.mr74.proofs.frame.Tie as tie
 
--- what the verdict has shown where it accepts
+-- what the checks have shown where they accept
 shown : (c : tie.Then1) → let a = c .before .before .before .args in Passed (now (a .sheet)) (a .state) (length (now (a .out)))
 shown c =
     let v = c .before .before in
     let a = v .before .args in
-    passed (now (a .sheet)) (a .state) (length (now (a .out))) (ap isAccepted (sym (v .validate .ensures)) ∙ sym (c .before .accepted .ensures) ∙ c .if1 .taken)
+    passed (now (a .sheet)) (a .state) (length (now (a .out))) (ap isAccepted (sym (v .check-frame .ensures)) ∙ sym (c .before .accepted .ensures) ∙ c .if1 .taken)
 
 decode-requires : tie.Need-decode-requires
 decode-requires c κs = shown c .ready
@@ -28,14 +28,14 @@ returns c =
     let t = d .before in
     let v = t .before .before in
     let a = v .before .args in
-    answer-accepted (now (a .sheet)) (a .state) (now (a .out)) (v .validate .ensures) (sym (t .before .accepted .ensures) ∙ t .if1 .taken) (d .decode .ensures) (k .copy .ensures)
+    answer-accepted (now (a .sheet)) (a .state) (now (a .out)) (v .check-frame .ensures) (sym (t .before .accepted .ensures) ∙ t .if1 .taken) (d .decode .ensures) (k .copy .ensures)
 
 returns-2 : tie.Need-returns-2
 returns-2 c =
     let t = c .before in
     let v = t .before .before in
     let a = v .before .args in
-    answer-refused (now (a .sheet)) (a .state) (now (a .out)) (v .validate .ensures) (sym (t .before .accepted .ensures) ∙ t .if1 .left) (c .refused .ensures)
+    answer-refused (now (a .sheet)) (a .state) (now (a .out)) (v .check-frame .ensures) (sym (t .before .accepted .ensures) ∙ t .if1 .left) (c .refused .ensures)
 
 pub frame-spec : {M : Type 1} → statement M
 frame-spec =

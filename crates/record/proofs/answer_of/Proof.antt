@@ -1,34 +1,47 @@
-use borrow.Author.Needs.{needs}
+-- `answer_of` meets its contract: the bytes are tested, then the state in them.
 use mathlib.Core.Path.{_≡_, sym, _∙_}
 use mathlib.Core.Bool.{true}
 use Prim.Native.Nat.{_≤_}
 use native.Mathlib.Omega.{arith}
+use borrow.Author.Needs.{needs}
+use borrow.Author.Tests.{not-true, not-false}
 use denote.Ref.{now}
 use lib.ListN.{length}
-use Rattle.state.specs.Outcome.{isAccepted}
-use Rattle.record.specs.Record.{recordVerdict}
-use Rattle.record.proofs.Reader.{whole, body-length, answer-accepted, answer-refused}
+use Rattle.outcome.specs.Outcome.{isAccepted}
+use Rattle.outcome.specs.Checks.{firstMet}
+use Rattle.outcome.proofs.Checks.{refused-here, accepts-here}
+use Rattle.record.specs.Record.{byteChecks, recordOutcome}
+use Rattle.record.proofs.Reader.{whole, body-length, state-decides, answer-accepted, answer-refused}
 use Rattle.record.proofs.answer_of.Statement.{statement}
 use Rattle.record.proofs.answer_of.Tie as tie
 
--- where the verdict is found to accept
-accepted : (c : tie.Then1) → isAccepted (recordVerdict (now (c .before .before .before .before .args .bytes))) ≡ true
-accepted c = rw (c .before .before .verdict .ensures) at (sym (c .before .accepted .ensures) ∙ c .if1 .taken)
+-- where the bytes are found to pass
+shown : (c : tie.Else1) → isAccepted (firstMet (byteChecks (now (c .before .before .before .before .args .bytes)))) ≡ true
+shown c = accepts-here _ (c .before .before .check-bytes .ensures) (c .before .accepted .ensures) (c .if1 .left)
 
-long : (c : tie.Then1) → 402 ≤ length (now (c .before .before .before .before .args .bytes))
-long c = whole (now (c .before .before .before .before .args .bytes)) (accepted c)
+long : (c : tie.Else1) → 402 ≤ length (now (c .before .before .before .before .args .bytes))
+long c = whole (now (c .before .before .before .before .args .bytes)) (shown c)
+
+-- the outcome of the state is the record's
+decides : (c : tie.After-check-state) → c .check-state .result ≡ recordOutcome (now (c .before .before .before .before .before .before .before .args .bytes))
+decides c = let e = c .before .before .before in state-decides _ (shown e) (c .before .state-in .ensures) (c .check-state .ensures)
 
 returns : tie.Need-returns
+unfolding recordOutcome
 returns c =
-    let t = c .before .before in
-    let v = t .before .before in
-    answer-accepted (now (v .before .before .args .bytes)) (v .verdict .result) (v .verdict .ensures) (sym (t .before .accepted .ensures) ∙ t .if1 .taken) (c .state-in .result) (c .state-in .ensures)
+    let t = c .before in
+    let k = t .before .before in
+    c .refused .ensures ∙ answer-refused _ (refused-here _ _ tt (k .check-bytes .ensures) (t .before .accepted .ensures) (t .if1 .taken)) (sym (t .before .accepted .ensures) ∙ not-true _ (t .if1 .taken))
 
 returns-2 : tie.Need-returns-2
 returns-2 c =
-    let e = c .before in
-    let v = e .before .before in
-    answer-refused (now (v .before .before .args .bytes)) (v .verdict .result) (v .verdict .ensures) (sym (e .before .accepted .ensures) ∙ e .if1 .left) (c .zero-state .result) (c .zero-state .ensures)
+    let t = c .before in
+    c .refused2 .ensures ∙ answer-refused _ (decides (t .before .before)) (sym (t .before .accepted2 .ensures) ∙ not-true _ (t .if2 .taken))
+
+returns-3 : tie.Need-returns-3
+returns-3 c =
+    let k = c .before .before in
+    answer-accepted _ (decides k) (sym (c .before .accepted2 .ensures) ∙ not-false _ (c .if2 .left)) _ (k .before .state-in .ensures)
 
 pub answer-of-spec : {M : Type 1} → statement M
 answer-of-spec =
@@ -36,12 +49,16 @@ answer-of-spec =
     (tie.spec
     (λ c κs. search needs)
     (λ c κs. search needs)
-    (λ c. omega (arith, long c))
-    (λ c. omega (arith, long c))
-    (λ c. search needs)
-    (λ c. search needs)
-    (λ c. search needs)
-    (λ c κs. body-length _ (accepted (c .before)))
-    returns
     (λ c κs. search needs)
-    returns-2)
+    returns
+    (λ c. omega (arith, long c))
+    (λ c. omega (arith, long c))
+    (λ c. search needs)
+    (λ c. search needs)
+    (λ c. search needs)
+    (λ c κs. let e = c .before in body-length (now (e .before .before .before .before .args .bytes)) (shown e))
+    (λ c κs. search needs)
+    (λ c κs. search needs)
+    (λ c κs. search needs)
+    returns-2
+    returns-3)

@@ -4,10 +4,9 @@ use borrow.Author.Needs.{needs}
 use lib.ListN.{length-map}
 use mir.Syntax.{w16}
 use Rattle.lists.proofs.Signed.{back, got}
-use Rattle.lists.proofs.Entries.{at-map}
+use Rattle.lists.proofs.Entries.{at-map, every-get}
 use Rattle.lists.proofs.Fill.{Filled, fill-none, fill-more, fill-whole}
 use Rattle.spectral.specs.Lsp.{lspOf, lspsOf}
-use Rattle.spectral.proofs.Lsp.{frequencies-range}
 use Rattle.spectral.proofs.cosines_of.Statement.{statement}
 use Rattle.spectral.proofs.cosines_of.Tie as tie
 
@@ -23,7 +22,7 @@ loop-holds c = (search needs, fill-none (length-map (c .args .t1) lspOf ∙ sear
 frequency-to-cosine-requires : tie.Need-frequency-to-cosine-requires Inv-loop μ-loop
 frequency-to-cosine-requires c κs =
     let s = c .before .before .before in
-    let r = frequencies-range (s .args .t1) (s .pre .0) (c .before .before .loop .i) (search needs) in
+    let r = every-get _ (s .args .t1) (s .pre .0) (c .before .before .loop .i) (search needs) in
     rw (back w16 (c .frequency-to-cosine-arg .given)) (r .0, r .1, s .pre .1)
 
 loop-again : tie.Need-loop-again Inv-loop μ-loop

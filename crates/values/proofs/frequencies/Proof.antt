@@ -1,7 +1,12 @@
-use Rattle.lists.specs.Lists.{firstNot}
 use mathlib.Core.Path.{refl}
+use mathlib.Core.List.{_∷_}
 use Prim.Native.Nat.{_≤_, _-_}
+use native.Mathlib.Omega.{arith}
 use borrow.Author.Needs.{needs}
+use lib.IntN.{pos}
+use lib.ListN.{replicate}
+use Rattle.outcome.specs.Checks.{firstOutside}
+use Rattle.outcome.proofs.Ranges.{in-range-all}
 use Rattle.values.proofs.frequencies.Statement.{statement}
 use Rattle.values.proofs.frequencies.Tie as tie
 
@@ -12,8 +17,8 @@ abbrev μ-loop : tie.MeasureT-loop
 μ-loop lsf lsp i₀ t4 i = 5 - i
 
 lsf-to-lsp-requires : tie.Need-lsf-to-lsp-requires Inv-loop μ-loop
-unfolding firstNot
-lsf-to-lsp-requires c κs = refl
+unfolding firstOutside
+lsf-to-lsp-requires c κs = in-range-all 10 (pos 16384) (pos 0 ∷ pos 128 ∷ pos 8191 ∷ pos 16383 ∷ pos 16384 ∷ replicate 5 (pos 0)) refl (omega arith)
 
 loop-holds : tie.Need-loop-holds Inv-loop μ-loop
 loop-holds c = search needs

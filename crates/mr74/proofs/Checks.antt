@@ -1,0 +1,67 @@
+-- The groups of checks of a frame call: what each has shown where it accepts, and the places of its refusals. Assumes nothing.
+use Prim.Native.Nat.{ℕ, _+_, _≤_, _<_}
+use mathlib.Core.Path.{_≡_, refl}
+use mathlib.Core.Bool.{true}
+use mathlib.Core.List.{List, [], _∷_, _++_}
+use native.Mathlib.Omega.{arith}
+use lib.IntN.{ℤ, pos}
+use lib.ListN.{length, take, drop, replicate}
+use lib.Seq.{length-take-le}
+use lib.Signed.{_≤ℤ_}
+use borrow.Author.Tests.{eqb-true, not-false}
+use Rattle.lists.specs.Lists.{at}
+use Rattle.lists.proofs.Entries.{stretch-at}
+use Rattle.spectral.specs.Lsp.{Frequencies}
+use Rattle.outcome.specs.declared.Outcome.the-variants.{Lsf, PitchIndex, Gain}
+use Rattle.outcome.specs.Outcome.{placeOf, isAccepted}
+use Rattle.outcome.specs.Checks.{firstMet, firstOutside}
+use Rattle.outcome.proofs.Checks.{none-met, Placed, placed-append, none-placed, place-low}
+use Rattle.outcome.proofs.Ranges.{in-ranges, in-range-all, range-accepts, range-placed}
+use Rattle.state.specs.declared.State.{State}
+use Rattle.state.specs.State.{stateChecks}
+use Rattle.state.proofs.Checks.{state-placed}
+use Rattle.mr74.specs.Sheet.{lsfsOf, indicesOf, gainsOf}
+use Rattle.mr74.specs.Checks.{lengthChecks, lsfChecks, pitchChecks, gainChecks, sheetChecks, frameChecks, frameOutcome}
+
+-- ---- what a group has shown
+pub lengths-accept : (count numbers room : ℕ) → isAccepted (firstMet (lengthChecks count numbers room)) ≡ true → (numbers ≡ count) × (room ≡ 160)
+lengths-accept count numbers room h =
+    let u = none-met (lengthChecks count numbers room) tt h in
+    (eqb-true numbers count (not-false _ (u .0)), eqb-true room 160 (not-false _ (u .1 .0)))
+
+module _ (sheet : List ℤ) where
+  pub lsfs-accept : 10 ≤ length sheet → isAccepted (firstMet (lsfChecks sheet)) ≡ true → Frequencies (lsfsOf sheet)
+  lsfs-accept l h =
+      in-range-all 10 (pos 16384) (lsfsOf sheet) (length-take-le 10 sheet l) (range-accepts Lsf (lsfsOf sheet) (replicate 10 (pos 16384)) (none-met (lsfChecks sheet) tt h .0))
+
+  -- the numbers from a place of the sheet on
+  ranges-at : (from n : ℕ) (limits : List ℤ) → n ≤ firstOutside (take n (drop from sheet)) limits → (k : ℕ) → k < n → (pos 0 ≤ℤ at sheet (from + k)) × (at sheet (from + k) ≤ℤ at limits k)
+  ranges-at from n limits h k l = rw (stretch-at sheet from n k l) (in-ranges (take n (drop from sheet)) limits k (omega arith))
+
+  abbrev pitchLimits : List ℤ
+  pitchLimits = pos 255 ∷ pos 31 ∷ pos 255 ∷ pos 31 ∷ []
+
+  pub pitch-accept : isAccepted (firstMet (pitchChecks sheet)) ≡ true → (k : ℕ) → k < 4 → (pos 0 ≤ℤ at sheet (10 + k)) × (at sheet (10 + k) ≤ℤ at pitchLimits k)
+  pitch-accept h = ranges-at 10 4 pitchLimits (range-accepts PitchIndex (indicesOf sheet) pitchLimits (none-met (pitchChecks sheet) tt h .0))
+
+  pub gains-accept : isAccepted (firstMet (gainChecks sheet)) ≡ true → (k : ℕ) → k < 8 → pos 0 ≤ℤ at sheet (14 + k)
+  gains-accept h k l = ranges-at 14 8 (replicate 8 (pos 32767)) (range-accepts Gain (gainsOf sheet) (replicate 8 (pos 32767)) (none-met (gainChecks sheet) tt h .0)) k l .0
+
+  -- ---- places
+  lsfs-placed : Placed (lsfChecks sheet)
+  lsfs-placed = (range-placed Lsf (lsfsOf sheet) (replicate 10 (pos 16384)) (omega arith) (λ k. refl), tt)
+
+  pitch-placed : Placed (pitchChecks sheet)
+  pitch-placed = (range-placed PitchIndex (indicesOf sheet) pitchLimits (omega arith) (λ k. refl), tt)
+
+  gains-placed : Placed (gainChecks sheet)
+  gains-placed = (range-placed Gain (gainsOf sheet) (replicate 8 (pos 32767)) (omega arith) (λ k. refl), tt)
+
+  sheet-placed : Placed (sheetChecks sheet)
+  sheet-placed = placed-append (lsfChecks sheet) (pitchChecks sheet ++ gainChecks sheet) lsfs-placed (placed-append (pitchChecks sheet) (gainChecks sheet) pitch-placed gains-placed)
+
+  pub outcome-place : (s : State) (room : ℕ) → placeOf (frameOutcome sheet s room) < 256
+  unfolding frameOutcome
+  outcome-place s room =
+      place-low (frameChecks sheet s room)
+      (placed-append (lengthChecks 182 (length sheet) room) (sheetChecks sheet ++ stateChecks s) (none-placed (lengthChecks 182 (length sheet) room) tt) (placed-append (sheetChecks sheet) (stateChecks s) sheet-placed (state-placed s)))

@@ -1,0 +1,40 @@
+-- What turns a frame call back: document 01, "Turned back by the sheet", and 16 and 17 of the state, in groups, in the frame order 1, 5, 2, 3, 4, 16, 17.
+use mathlib.Core.Bool.{not}
+use mathlib.Core.List.{List, [], _∷_, _++_}
+use Prim.Native.Nat.{ℕ}
+use lib.Dec.{eqb}
+use lib.IntN.{ℤ, pos}
+use lib.ListN.{length, replicate}
+use Rattle.outcome.specs.declared.Outcome.{Outcome}
+use Rattle.outcome.specs.declared.Outcome.the-variants.{SheetLength, Lsf, PitchIndex, Gain, OutputLength}
+use Rattle.outcome.specs.Checks.{Check, check, firstMet, rangeCheck}
+use Rattle.state.specs.declared.State.{State}
+use Rattle.state.specs.State.{stateChecks}
+use Rattle.mr74.specs.Sheet.{lsfsOf, indicesOf, gainsOf}
+
+-- 1: another count of numbers than the sheet's; 5: no room for 160 samples
+abbrev pub lengthChecks : ℕ → ℕ → ℕ → List Check
+lengthChecks count numbers room = check (not (eqb numbers count)) SheetLength ∷ check (not (eqb room 160)) OutputLength ∷ []
+
+-- 2: an LSF outside 0..=16384
+abbrev pub lsfChecks : List ℤ → List Check
+lsfChecks sheet = rangeCheck Lsf (lsfsOf sheet) (replicate 10 (pos 16384)) ∷ []
+
+-- 3: a pitch index outside 0..=255 in subframes 0 and 2, outside 0..=31 in 1 and 3
+abbrev pub pitchChecks : List ℤ → List Check
+pitchChecks sheet = rangeCheck PitchIndex (indicesOf sheet) (pos 255 ∷ pos 31 ∷ pos 255 ∷ pos 31 ∷ []) ∷ []
+
+-- 4: a negative gain
+abbrev pub gainChecks : List ℤ → List Check
+gainChecks sheet = rangeCheck Gain (gainsOf sheet) (replicate 8 (pos 32767)) ∷ []
+
+-- the numbers of a frame sheet
+abbrev pub sheetChecks : List ℤ → List Check
+sheetChecks sheet = lsfChecks sheet ++ (pitchChecks sheet ++ gainChecks sheet)
+
+-- of a sheet, a state and the length of the lent output
+abbrev pub frameChecks : List ℤ → State → ℕ → List Check
+frameChecks sheet s room = lengthChecks 182 (length sheet) room ++ (sheetChecks sheet ++ stateChecks s)
+
+unfoldable pub frameOutcome : List ℤ → State → ℕ → Outcome
+frameOutcome sheet s room = firstMet (frameChecks sheet s room)

@@ -1,0 +1,4 @@
+-- Variants: what holds of every outcome. Checks: checks one by one, and group after group. Ranges: the search for the first number outside its range.
+pub mod Variants
+pub mod Checks
+pub mod Ranges

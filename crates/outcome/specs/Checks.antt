@@ -1,0 +1,38 @@
+-- Checks that are tested in order, and the search for the first number outside its range.
+use mathlib.Core.Bool.{Bool, cond, not, _||_}
+use mathlib.Core.List.{List, [], _∷_}
+use Prim.Native.Nat.{ℕ, suc}
+use lib.Dec.{ltb}
+use lib.IntN.{ℤ, pos}
+use lib.ListN.{length}
+use lib.Signed.{ltZ}
+use Rattle.outcome.specs.declared.Outcome.{Outcome}
+use Rattle.outcome.specs.declared.Outcome.the-variants.{Accepted}
+
+-- a line of a table of refusals: whether its condition is met, and the refusal
+pub record Check : Type 0 where
+  pub met : Bool
+  pub refusal : Outcome
+
+abbrev pub check : Bool → Outcome → Check
+check met refusal = record { met = met; refusal = refusal }
+
+-- the first check that is met turns the call back. Groups of checks are joined by `++`
+unfoldable pub firstMet : List Check → Outcome
+firstMet [] = Accepted
+firstMet (c ∷ checks) = cond (c .met) (c .refusal) (firstMet checks)
+
+-- ---- numbers with a limit each
+-- a number lies in 0..=limit
+abbrev pub within : ℤ → ℤ → Bool
+within limit number = not (ltZ number (pos 0) || ltZ limit number)
+
+-- the place of the first number outside 0..=its limit, the count where none is
+unfoldable pub firstOutside : List ℤ → List ℤ → ℕ
+firstOutside [] limits = 0
+firstOutside (number ∷ numbers) [] = 0
+firstOutside (number ∷ numbers) (limit ∷ limits) = cond (within limit number) (suc (firstOutside numbers limits)) 0
+
+-- the check that every number lies in 0..=its limit, whose refusal has the place of the first that does not
+abbrev pub rangeCheck : (ℕ → Outcome) → List ℤ → List ℤ → Check
+rangeCheck refusal numbers limits = check (ltb (firstOutside numbers limits) (length limits)) (refusal (firstOutside numbers limits))

@@ -1,0 +1,29 @@
+-- What a state has shown that its checks accept. Assumes nothing.
+use mathlib.Core.Path.{_≡_}
+use mathlib.Core.Bool.{true}
+use lib.IntN.{pos}
+use lib.Signed.{_≤ℤ_, ltZ}
+use Rattle.basicop.proofs.Tests.{less-no, or-left, or-right}
+use Rattle.outcome.specs.Outcome.{isAccepted}
+use Rattle.outcome.specs.Checks.{firstMet}
+use Rattle.outcome.proofs.Checks.{Placed, none-placed, none-met}
+use Rattle.state.specs.declared.State.{State}
+use Rattle.state.specs.State.{stateChecks}
+
+pub record Kept (s : State) : Type 0 where
+  pub from : pos 0 ≤ℤ s .core .sharpening .0
+  pub to : s .core .sharpening .0 ≤ℤ pos 13017
+  pub gain : pos 0 ≤ℤ s .post .gain .«previous_gain»
+
+pub kept : (s : State) → isAccepted (firstMet (stateChecks s)) ≡ true → Kept s
+kept s h =
+    let u = none-met (stateChecks s) tt h in
+    let sharpening = s .core .sharpening .0 in
+    record {
+      from = less-no (or-left (ltZ sharpening (pos 0)) (ltZ (pos 13017) sharpening) (u .0));
+      to = less-no (or-right (ltZ sharpening (pos 0)) (ltZ (pos 13017) sharpening) (u .0));
+      gain = less-no (u .1 .0);
+    }
+
+pub state-placed : (s : State) → Placed (stateChecks s)
+state-placed s = none-placed (stateChecks s) tt
