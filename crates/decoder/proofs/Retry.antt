@@ -19,7 +19,7 @@ use Rattle.decoder.specs.Subframe.{Fed, Subframe, kept, again, synthesis
 use Rattle.decoder.specs.Retry.{Retry}
 
 -- a number in -8192..=8191
-abbrev Small : ℤ → Type 0
+abbrev pub Small : ℤ → Type 0
 Small z = (negsuc 8191 ≤ℤ z) × (z ≤ℤ pos 8191)
 
 small-zero : Small (pos 0)

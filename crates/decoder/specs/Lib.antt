@@ -1,3 +1,4 @@
+pub mod Inputs
 pub mod Enhance
 pub mod Subframe
 pub mod Core

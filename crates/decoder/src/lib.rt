@@ -1,12 +1,13 @@
 // The core of a frame: everything up to the synthesis samples.
 ghost use mathlib.Core.Path.{_≡_};
 ghost use mathlib.Core.List.{_++_};
-ghost use Prim.Native.Nat.{_+_, _*_, _<_, _≤_};
+ghost use Prim.Native.Nat.{_+_, _*_, _<_};
 ghost use lib.ListN.{take};
 ghost use Rattle.decoder.specs.Enhance.{enhancedAt, enhanced, firstExcitation};
 ghost use Rattle.decoder.specs.Subframe.{synthesised, told};
-ghost use Rattle.decoder.specs.Core.{excited, turn, toldTurn, Lags, ran, toldRun, decoded, toldFrame};
-ghost use Rattle.spectral.specs.Lsp.{Frequencies};
+ghost use Rattle.decoder.specs.Inputs.{subframeOf, inputsOf, UsableSubframe, Usable};
+ghost use Rattle.decoder.specs.Core.{excited, turn, toldTurn, rowList, ran, toldRun, decoded, toldFrame};
+ghost use Rattle.lists.specs.Lists.{Every};
 use basicop::Q1;
 use basicop::Q14;
 use basicop::Q15;
@@ -24,12 +25,21 @@ pub struct Core {
     pub history: [i16; 10],
 }
 
-// What the sheet gives for a subframe.
+// What a subframe is decoded from.
 pub struct Parameters {
     pub lag: PitchLag,
     pub pitch: Q14,
     pub code: Q1,
     pub innovation: [i16; 40],
+}
+
+// What a frame is decoded from: ten LSFs and four subframes.
+pub struct Inputs {
+    pub lsfs: [i16; 10],
+    pub a: Parameters,
+    pub b: Parameters,
+    pub c: Parameters,
+    pub d: Parameters,
 }
 
 // A sample of the enhanced excitation.
@@ -108,10 +118,10 @@ pub struct Excited {
     pub excitation: [i16; 40],
 }
 
-// The caller shows that the lag lies in 19..=144, as every lag does.
+// Asks that the lag lies in 19..=144.
 fn excite(past: [i16; 154], sharpening: Q14, p: Parameters) -> Excited
-    requires { ⌜ (19 ≤ p .lag .samples) × (p .lag .samples ≤ 144) ⌝ }
-    ensures { λ r. ⌜ r ≡ excited past (sharpening .0) p .value ⌝ }
+    requires { ⌜ UsableSubframe (subframeOf p) ⌝ }
+    ensures { λ r. ⌜ r ≡ excited past (sharpening .0) (subframeOf p) .value ⌝ }
 {
     let lag = p.lag;
     let pitch = p.pitch;
@@ -135,8 +145,8 @@ pub struct Turned {
 
 // The subframe step.
 pub fn turn(core: Core, row: [i16; 11], p: Parameters) -> Turned
-    requires { ⌜ (19 ≤ p .lag .samples) × (p .lag .samples ≤ 144) ⌝ }
-    ensures { λ r. ⌜ r ≡ toldTurn (turn core row p) ⌝ }
+    requires { ⌜ UsableSubframe (subframeOf p) ⌝ }
+    ensures { λ r. ⌜ r ≡ toldTurn (turn core row (subframeOf p)) ⌝ }
 {
     let past = core.past;
     let e = excite(past, core.sharpening, p);
@@ -182,14 +192,6 @@ fn joined(a: [i16; 40], b: [i16; 40], c: [i16; 40], d: [i16; 40]) -> [i16; 160]
     put(third, d, 3)
 }
 
-// What the sheet gives for the four subframes.
-pub struct Subframes {
-    pub a: Parameters,
-    pub b: Parameters,
-    pub c: Parameters,
-    pub d: Parameters,
-}
-
 // The four subframes, each from the state that the one before left.
 pub struct Ran {
     pub places: [usize; 4],
@@ -197,24 +199,24 @@ pub struct Ran {
     pub next: Core,
 }
 
-fn run(core: Core, rows: Rows, p: Subframes) -> Ran
-    requires { ⌜ Lags p ⌝ }
-    ensures { λ r. ⌜ r ≡ toldRun (ran core rows p) ⌝ }
+fn run(core: Core, rows: Rows, inputs: Inputs) -> Ran
+    requires { ⌜ Every UsableSubframe (inputsOf inputs .subframes) ⌝ }
+    ensures { λ r. ⌜ r ≡ toldRun core (ran core (rowList rows) (inputsOf inputs .subframes)) ⌝ }
 {
     let first = rows.a;
-    let pa = p.a;
+    let pa = inputs.a;
     let a = turn(core, first, pa);
     let after_a = a.next;
     let second = rows.b;
-    let pb = p.b;
+    let pb = inputs.b;
     let b = turn(after_a, second, pb);
     let after_b = b.next;
     let third = rows.c;
-    let pc = p.c;
+    let pc = inputs.c;
     let c = turn(after_b, third, pc);
     let after_c = c.next;
     let fourth = rows.d;
-    let pd = p.d;
+    let pd = inputs.d;
     let d = turn(after_c, fourth, pd);
     let next = d.next;
     let ya = a.samples;
@@ -235,12 +237,13 @@ pub struct Frame {
     pub run: Ran,
 }
 
-// The core of a frame. The test of the sheet shows what it asks: refusals 2 and 3.
-pub fn decode(core: Core, lsf: [i16; 10], p: Subframes) -> Frame
-    requires { ⌜ Frequencies lsf × Lags p ⌝ }
-    ensures { λ r. ⌜ r ≡ toldFrame (decoded core lsf p) ⌝ }
+// The core of a frame. The checks of a call show what it asks.
+pub fn decode(core: Core, inputs: Inputs) -> Frame
+    requires { ⌜ Usable (inputsOf inputs) ⌝ }
+    ensures { λ r. ⌜ r ≡ toldFrame (decoded core (inputsOf inputs)) ⌝ }
 {
-    let lsp = spectral::lsf_to_lsp(lsf);
+    let lsfs = inputs.lsfs;
+    let lsp = spectral::lsf_to_lsp(lsfs);
     let before = core.lsp;
     let rows = lpc::interpolate(before, lsp);
     let past = core.past;
@@ -252,6 +255,6 @@ pub fn decode(core: Core, lsf: [i16; 10], p: Subframes) -> Frame
         sharpening,
         history,
     };
-    let ran = run(opened, rows, p);
+    let ran = run(opened, rows, inputs);
     Frame { rows, run: ran }
 }

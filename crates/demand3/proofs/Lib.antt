@@ -1,5 +1,4 @@
--- Machine: a subframe beside the machine of whole numbers. Frames: what an accepted frame gives. Calls: one call. Demand3: the theorem.
+-- Machine: a subframe, and the core of a frame, beside the machine of whole numbers. Calls: one call. Demand3: the theorem.
 pub mod Machine
-pub mod Frames
 pub mod Calls
 pub mod Demand3

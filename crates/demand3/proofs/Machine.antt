@@ -5,21 +5,19 @@ use mathlib.Core.Bool.{Bool, true, false, cond}
 use mathlib.Core.List.{List, [], _∷_, map}
 use lib.IntN.{ℤ, *ℤ-comm}
 use lib.ListN.{length, drop}
-use Rattle.lists.specs.Lists.{at}
+use Rattle.lists.specs.Lists.{at, Every}
 use Rattle.basicop.specs.Ops.{clamp, L-mult, L-sub, L-add, L-shl}
 use Rattle.synthesis.specs.Fed.{fed}
 use Rattle.synthesis.specs.Synthesis.{acc, sample, samples}
 use Rattle.synthesis.specs.Whole.{retried}
-use Rattle.lpc.specs.declared.Rows.{Rows}
+use Rattle.spectral.specs.Lsp.{lspsOf}
+use Rattle.lpc.proofs.Coefficients.{rows-are}
 use Rattle.decoder.specs.declared.Core.{Core}
-use Rattle.decoder.specs.declared.Parameters.{Parameters}
-use Rattle.decoder.specs.declared.Subframes.{Subframes}
+use Rattle.decoder.specs.Inputs.{SubframeInputs, FrameInputs}
 use Rattle.decoder.specs.Subframe.{Fed, Subframe, synthesised}
-use Rattle.decoder.specs.Core.{Turn, turn, ran}
+use Rattle.decoder.specs.Core.{Turn, turn, ran, coreAfter, rowList, opened, decoded}
 use Rattle.decoder.proofs.Retry.{retry}
-use Rattle.decoder.proofs.Results.{Held, turn-row, turn-made, turn-past, turn-history, turn-forty, turn-makes}
-use Rattle.mr74.specs.Frame.{turnsOf}
-use Rattle.mr74.proofs.Turns.{ran-is, held-a, held-b, held-c}
+use Rattle.decoder.proofs.Results.{Held, turn-row, turn-made, turn-past, turn-history, turn-forty, turn-makes, turn-held}
 use Rattle.demand3.specs.Measure.{Machine, Measured, heldSum, heldSample, heldSamples, unretried, again, measured, leaves, leavesAll}
 use Rattle.demand3.specs.Demand3.{AsMeasured, Beside}
 
@@ -33,7 +31,7 @@ held-sample : (a : List ℤ) (x : ℤ) (y : List ℤ) → heldSample a x y ≡ s
 unfolding L-shl L-add clamp
 held-sample a x y = rw (held-sum a x y 10)
 
-pub held-samples : (a xs h : List ℤ) → heldSamples a xs h ≡ samples 10 a xs h
+held-samples : (a xs h : List ℤ) → heldSamples a xs h ≡ samples 10 a xs h
 held-samples a xs h = ap (λ (make : ℤ → List ℤ → ℤ). drop 10 (fed make xs h)) (fun-ext (λ x. fun-ext (λ y. held-sample a x y)))
 
 -- ---- one subframe
@@ -57,21 +55,21 @@ module _ (f : Fed) (m : Machine) (l : length (m .history) ≡ 10) where
   past-go true e = ap (λ (r : Measured). r .past) (measures true e) ∙ sym (retry f (m .history) (m .past) l .again-past e)
   past-go false e = ap (λ (r : Measured). r .past) (measures false e) ∙ sym (retry f (m .history) (m .past) l .kept-past e)
 
-  pub measured-samples : measured f m .samples ≡ d .samples
+  measured-samples : measured f m .samples ≡ d .samples
   measured-samples = samples-go flag refl
 
-  pub measured-past : measured f m .past ≡ d .past
+  measured-past : measured f m .past ≡ d .past
   measured-past = past-go flag refl
 
 -- ---- a subframe step
-abbrev pub machineOf : Core → Machine
+abbrev machineOf : Core → Machine
 machineOf c = record { history = c .history; past = c .past }
 
-module _ (c : Core) (row : List ℤ) (p : Parameters) (h : Held c) where
+module _ (c : Core) (row : List ℤ) (p : SubframeInputs) (h : Held c) where
   abbrev t : Turn
   t = turn c row p
 
-  pub turn-measured : length row ≡ 11 → AsMeasured (t .fed) (machineOf c) (t .made)
+  turn-measured : length row ≡ 11 → AsMeasured (t .fed) (machineOf c) (t .made)
   turn-measured e =
       let k = turn-forty c row p (h .past .count) in
       let r = retry (t .fed) (c .history) (c .past) (h .history .count) in
@@ -88,7 +86,7 @@ module _ (c : Core) (row : List ℤ) (p : Parameters) (h : Held c) where
         again = λ y. r .again-samples (sym (r .flag) ∙ y) ∙ sym (held-samples (t .fed .row) _ (c .history)) ∙ ap (λ (x : List ℤ). heldSamples (t .fed .row) x (c .history)) (sym (r .again-feedback (sym (r .flag) ∙ y)));
       })
 
-  pub turn-leaves : leaves (t .fed) (machineOf c) ≡ machineOf (t .next)
+  turn-leaves : leaves (t .fed) (machineOf c) ≡ machineOf (t .next)
   turn-leaves =
       let ys = measured-samples (t .fed) (machineOf c) (h .history .count) ∙ sym (ap (λ (d : Subframe). d .samples) (turn-made c row p)) in
       let n : length (t .made .samples) - 10 ≡ 30 = rw (turn-makes c row p h .samples .count) refl in
@@ -97,45 +95,36 @@ module _ (c : Core) (row : List ℤ) (p : Parameters) (h : Held c) where
         past = (measured-past (t .fed) (machineOf c) (h .history .count) ∙ sym (ap (λ (d : Subframe). d .past) (turn-made c row p)) ∙ sym (turn-past c row p)) i;
       }
 
--- ---- four of them
--- each row has eleven coefficients
-pub record Elevens (rows : Rows) : Type 0 where
-  pub a : length (rows .a) ≡ 11
-  pub b : length (rows .b) ≡ 11
-  pub c : length (rows .c) ≡ 11
-  pub d : length (rows .d) ≡ 11
+-- ---- the subframes of a frame
+ran-beside : (c : Core) (rows : List (List ℤ)) (ps : List SubframeInputs) → Held c → Every (λ (row : List ℤ). length row ≡ 11) rows → Beside (machineOf c) (ran c rows ps)
+unfolding ran
+ran-beside c [] ps h l = tt
+ran-beside c (row ∷ rows) [] h l = tt
+ran-beside c (row ∷ rows) (p ∷ ps) h l =
+    let n = turn c row p .next in (
+      turn-measured c row p h (l .0),
+      subst (λ (m : Machine). Beside m (ran n rows ps)) (sym (turn-leaves c row p h)) (ran-beside n rows ps (turn-held c row p h) (l .1)),
+    )
 
-module _ (core : Core) (rows : Rows) (p : Subframes) (h : Held core) where
-  abbrev a : Turn
-  a = turn core (rows .a) (p .a)
+ran-leaves : (c : Core) (rows : List (List ℤ)) (ps : List SubframeInputs) → Held c → leavesAll (map (λ (t : Turn). t .fed) (ran c rows ps)) (machineOf c) ≡ machineOf (coreAfter c (ran c rows ps))
+unfolding ran leavesAll
+ran-leaves c [] ps h = refl
+ran-leaves c (row ∷ rows) [] h = refl
+ran-leaves c (row ∷ rows) (p ∷ ps) h =
+    let n = turn c row p .next in
+    ap (leavesAll (map (λ (t : Turn). t .fed) (ran n rows ps))) (turn-leaves c row p h) ∙ ran-leaves n rows ps (turn-held c row p h)
 
-  abbrev b : Turn
-  b = turn (a .next) (rows .b) (p .b)
+-- ---- the core of a frame
+module _ (c : Core) (f : FrameInputs) (h : Held c) where
+  opens : Held (opened c f)
+  opens = record { past = h .past; history = h .history }
 
-  abbrev c : Turn
-  c = turn (b .next) (rows .c) (p .c)
+  pub core-beside : Beside (machineOf c) (decoded c f .turns)
+  unfolding decoded
+  core-beside =
+      let r = rows-are (c .lsp) (lspsOf (f .lsfs)) in
+      ran-beside (opened c f) (rowList (decoded c f .rows)) (f .subframes) opens (r .0 .eleven, (r .1 .0 .eleven, (r .1 .1 .0 .eleven, (r .1 .1 .1 .eleven, tt))))
 
-  abbrev e : Turn
-  e = turn (c .next) (rows .d) (p .d)
-
-  pub ran-beside : Elevens rows → Beside (machineOf core) (turnsOf (ran core rows p))
-  ran-beside l =
-      subst (Beside (machineOf core)) (sym (ran-is core rows p)) (
-        turn-measured core (rows .a) (p .a) h (l .a),
-        subst (λ (m : Machine). Beside m (b ∷ c ∷ e ∷ [])) (sym (turn-leaves core (rows .a) (p .a) h)) (
-          turn-measured (a .next) (rows .b) (p .b) (held-a core rows p h) (l .b),
-          subst (λ (m : Machine). Beside m (c ∷ e ∷ [])) (sym (turn-leaves (a .next) (rows .b) (p .b) (held-a core rows p h))) (
-            turn-measured (b .next) (rows .c) (p .c) (held-b core rows p h) (l .c),
-            subst (λ (m : Machine). Beside m (e ∷ [])) (sym (turn-leaves (b .next) (rows .c) (p .c) (held-b core rows p h)))
-                (turn-measured (c .next) (rows .d) (p .d) (held-c core rows p h) (l .d), tt),
-          ),
-        ),
-      )
-
-  pub ran-leaves : leavesAll (map (λ (t : Turn). t .fed) (turnsOf (ran core rows p))) (machineOf core) ≡ machineOf (ran core rows p .d .next)
-  unfolding ran leavesAll
-  ran-leaves =
-      ap (λ (m : Machine). leaves (e .fed) (leaves (c .fed) (leaves (b .fed) m))) (turn-leaves core (rows .a) (p .a) h)
-      ∙ ap (λ (m : Machine). leaves (e .fed) (leaves (c .fed) m)) (turn-leaves (a .next) (rows .b) (p .b) (held-a core rows p h))
-      ∙ ap (λ (m : Machine). leaves (e .fed) m) (turn-leaves (b .next) (rows .c) (p .c) (held-b core rows p h))
-      ∙ turn-leaves (c .next) (rows .d) (p .d) (held-c core rows p h)
+  pub core-leaves : leavesAll (map (λ (t : Turn). t .fed) (decoded c f .turns)) (machineOf c) ≡ machineOf (decoded c f .next)
+  unfolding decoded
+  core-leaves = ran-leaves (opened c f) (rowList (decoded c f .rows)) (f .subframes) opens

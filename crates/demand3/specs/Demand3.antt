@@ -14,7 +14,7 @@ use Rattle.state.specs.declared.State.{State}
 use Rattle.outcome.specs.declared.Outcome.the-variants.{Accepted}
 use Rattle.state.specs.State.{WellFormed, stateOutcome}
 use Rattle.mr74.specs.Frame.{Trace}
-use Rattle.demand3.specs.Calls.{Call, traceOf, nextState, runCalls, stateAfter, accepted, anyAccepted, latestFlag}
+use Rattle.calls.specs.Calls.{Call, traceOf, nextState, runCalls, stateAfter, accepted, anyAccepted, latestFlag}
 use Rattle.demand3.specs.Measure.{Machine, heldSamples, quarters, takesIn, leaves, leavesAll}
 
 -- from .. to

@@ -1,3 +1,2 @@
-pub mod Calls
 pub mod Measure
 pub mod Demand3

@@ -1,1 +1,1 @@
-// Demand 3 over lists of calls: definitions, statement and theorem; no function.
+// The machine of whole numbers, demand 3 and its theorem; no function.

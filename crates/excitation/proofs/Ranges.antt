@@ -4,7 +4,6 @@ use mathlib.Core.Path.{_≡_, refl, _∙_, subst}
 use mathlib.Core.Bool.{Bool, true, false, cond}
 use mathlib.Core.List.{List, []}
 use native.Mathlib.Omega.{arith}
-use lib.Dec.{ltb}
 use lib.IntN.{ℤ, pos, negsuc}
 use lib.ListN.{length, drop, length-append, length-drop, length-map}
 use lib.Signed.{_≤ℤ_, ltZ}
@@ -23,18 +22,18 @@ use Rattle.basicop.proofs.Tests.{less-no}
 use Rattle.excitation.specs.Excitation.{sharpenedAt, sharpened, sharpening, feedbackAt, feedback, taking}
 
 -- ---- sharpening
-pub sharpened-length : (code : List ℤ) (t : ℕ) (sharp : ℤ) → length (sharpened code t sharp) ≡ 40
+pub sharpened-length : (code : List ℤ) (t : ℤ) (sharp : ℤ) → length (sharpened code t sharp) ≡ 40
 unfolding sharpened
 sharpened-length code t sharp = length-grow _ [] 40
 
-sharpenedAt-fits : (code : List ℤ) (t : ℕ) (g : ℤ) → ((i : ℕ) → SFits w16 (at code i)) → (i : ℕ) (y : List ℤ) → SFits w16 (sharpenedAt code t g i y)
-sharpenedAt-fits code t g f i y = go (ltb i t) _
+sharpenedAt-fits : (code : List ℤ) (t : ℤ) (g : ℤ) → ((i : ℕ) → SFits w16 (at code i)) → (i : ℕ) (y : List ℤ) → SFits w16 (sharpenedAt code t g i y)
+sharpenedAt-fits code t g f i y = go (ltZ (pos i) t) _
   where
     go : (b : Bool) (z : ℤ) → SFits w16 (cond b (at code i) (add (at code i) z))
     go true z = f i
     go false z = add-fits _ _
 
-pub sharpened-fits : (code : List ℤ) (t : ℕ) (sharp : ℤ) → ((i : ℕ) → SFits w16 (at code i)) → (i : ℕ) → i < 40 → SFits w16 (at (sharpened code t sharp) i)
+pub sharpened-fits : (code : List ℤ) (t : ℤ) (sharp : ℤ) → ((i : ℕ) → SFits w16 (at code i)) → (i : ℕ) → i < 40 → SFits w16 (at (sharpened code t sharp) i)
 unfolding sharpened
 sharpened-fits code t sharp f i h =
     let z : i ≡ 0 + i = omega arith in

@@ -1,19 +1,18 @@
 -- The excitation of a subframe: Decoder_amr of TS 26.073, good frame, MR74 (TS 26.090, 6.1).
 use mathlib.Core.Bool.{cond}
 use mathlib.Core.List.{List, [], _++_}
-use Prim.Native.Nat.{ℕ, _-_}
-use lib.Dec.{ltb}
-use lib.IntN.{ℤ, pos}
+use Prim.Native.Nat.{ℕ}
+use lib.IntN.{ℤ, pos, _-ℤ_}
 use lib.ListN.{drop}
 use lib.Signed.{ltZ}
-use Rattle.lists.specs.Lists.{at, iter, grow, pairwise}
+use Rattle.lists.specs.Lists.{at, entry, iter, grow, pairwise}
 use Rattle.basicop.specs.Ops.{add, sub, mult, shl, L-mult, L-mac, L-shl, round}
 
 -- ---- pitch sharpening: for i from the lag t on, code[i] = add (code[i], mult (code[i - t], g)), feeding on itself, g the sharpening doubled
-abbrev pub sharpenedAt : List ℤ → ℕ → ℤ → ℕ → List ℤ → ℤ
-sharpenedAt code t g i y = cond (ltb i t) (at code i) (add (at code i) (mult (at y (i - t)) g))
+abbrev pub sharpenedAt : List ℤ → ℤ → ℤ → ℕ → List ℤ → ℤ
+sharpenedAt code t g i y = cond (ltZ (pos i) t) (at code i) (add (at code i) (mult (entry y (pos i -ℤ t)) g))
 
-unfoldable pub sharpened : List ℤ → ℕ → ℤ → List ℤ
+unfoldable pub sharpened : List ℤ → ℤ → ℤ → List ℤ
 sharpened code t sharp = iter (grow (sharpenedAt code t (shl sharp (pos 1)))) 40 []
 
 -- the sharpening that is carried on: the pitch gain, at most SHARPMAX

@@ -2,6 +2,7 @@
 ghost use mathlib.Core.Path.{_≡_};
 ghost use Prim.Native.Nat.{_<_, _≤_};
 ghost use mathlib.Core.List.{_++_};
+ghost use lib.IntN.{pos};
 ghost use lib.ListN.{take, drop};
 ghost use Rattle.basicop.specs.Ops.{add, mult, quartered};
 ghost use Rattle.excitation.specs.Excitation.{sharpened, sharpening, feedbackAt, feedback, taking};
@@ -18,7 +19,7 @@ fn sharper(code: i16, before: i16, sharpening: i16) -> i16
 // The innovation with pitch sharpening, by the sharpening of the subframe before. A lag is at least 19.
 pub fn sharpen(innovation: [i16; 40], lag: usize, sharpening: Q14) -> [i16; 40]
     requires { ⌜ (1 ≤ lag) × (lag ≤ 144) ⌝ }
-    ensures { λ r. ⌜ r ≡ sharpened innovation lag (sharpening .0) ⌝ }
+    ensures { λ r. ⌜ r ≡ sharpened innovation (pos lag) (sharpening .0) ⌝ }
 {
     let doubled = basicop::doubled(sharpening);
     let g = doubled.0;

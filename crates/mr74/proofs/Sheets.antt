@@ -1,5 +1,5 @@
--- A sheet's lags and parameters. Assumes nothing.
-use Prim.Native.Nat.{ℕ, _+_, _*_, _≤_}
+-- A sheet's lags and inputs. Assumes nothing.
+use Prim.Native.Nat.{ℕ, _+_, _*_}
 use mathlib.Core.Path.{_≡_, refl, ap, _∙_}
 use mathlib.Core.List.{List, [], _∷_, map}
 use native.Mathlib.Omega.{arith}
@@ -11,14 +11,12 @@ use mir.Syntax.{w8}
 use mir.Val.{Fits}
 use Rattle.lists.specs.Lists.{at}
 use Rattle.pitch.specs.declared.PitchLag.{PitchLag}
-use Rattle.pitch.specs.Lag.{Lag, absolute, relative, lagOf, pitchLag}
-use Rattle.pitch.proofs.Lags.{Lawful, absolute-lawful, relative-lawful, lag-of}
-use Rattle.decoder.specs.Core.{Lags}
-use Rattle.mr74.specs.declared.FourLags.{FourLags}
+use Rattle.pitch.specs.Lag.{absolute, relative, lagOf}
 use Rattle.decoder.specs.declared.Parameters.{Parameters}
-use Rattle.decoder.specs.declared.Subframes.{Subframes}
-use Rattle.mr74.specs.Sheet.{lagsOf, innovationOf, parametersOf, subframesOf}
-use Rattle.mr74.specs.Inner.{Ready, fourLags}
+use Rattle.decoder.specs.Inputs.{subframeOf, inputsOf}
+use Rattle.mr74.specs.declared.FourLags.{FourLags}
+use Rattle.mr74.specs.Sheet.{lsfsOf, lagsOf, innovationOf, subframeAt, subframesFrom, sheetInputs}
+use Rattle.mr74.specs.Inner.{fourLags}
 
 -- ---- a pitch index as a byte
 pub byte-fits : (z : ℤ) → pos 0 ≤ℤ z → z ≤ℤ pos 255 → (T (nonNeg z) × Fits w8 (natAbs z)) × (pos (natAbs z) ≡ z)
@@ -26,12 +24,12 @@ byte-fits (pos n) h k = ((tt, record { fits = omega (arith, leb→le n 255 (k .l
 byte-fits (negsuc n) h k = absurd (h .le)
 
 -- ---- the lags
-pub lags-are : (sheet : List ℤ) {a b c d : PitchLag} {i j k l : ℕ} → pos i ≡ at sheet 10 → pos j ≡ at sheet 11 → pos k ≡ at sheet 12 → pos l ≡ at sheet 13
+pub lags-are : (sheet : List ℤ) (a b c d : PitchLag) {i j k l : ℕ} → pos i ≡ at sheet 10 → pos j ≡ at sheet 11 → pos k ≡ at sheet 12 → pos l ≡ at sheet 13
     → lagOf a ≡ absolute (pos i) → lagOf b ≡ relative (pos j) (lagOf a .samples) → lagOf c ≡ absolute (pos k) → lagOf d ≡ relative (pos l) (lagOf c .samples)
-    → _≡_ {A = FourLags} (record { a = a; b = b; c = c; d = d }) (fourLags (lagsOf sheet))
+    → fourLags (record { a = a; b = b; c = c; d = d }) ≡ lagsOf sheet
 unfolding lagsOf
-lags-are sheet {a} {b} {c} {d} ei ej ek el ea eb ec ed =
-    λ t. record { a = lag-of {l = a} (ea ∙ ap absolute ei) t; b = lag-of {l = b} (eb ∙ next a ea ei ej) t; c = lag-of {l = c} (ec ∙ ap absolute ek) t; d = lag-of {l = d} (ed ∙ next c ec ek el) t }
+lags-are sheet a b c d ei ej ek el ea eb ec ed =
+    λ t. (ea ∙ ap absolute ei) t ∷ (eb ∙ next a ea ei ej) t ∷ (ec ∙ ap absolute ek) t ∷ (ed ∙ next c ec ek el) t ∷ []
   where
     next : (a : PitchLag) {i j : ℕ} {x y : ℤ} → lagOf a ≡ absolute (pos i) → pos i ≡ x → pos j ≡ y → relative (pos j) (lagOf a .samples) ≡ relative y (absolute x .samples)
     next a e f g = let k = e ∙ ap absolute f in λ t. relative (g t) (k t .samples)
@@ -45,36 +43,16 @@ four-flags (p ∷ q ∷ r ∷ []) e = absurd (omega (arith, e))
 four-flags (p ∷ q ∷ r ∷ s ∷ []) e = refl
 four-flags (p ∷ q ∷ r ∷ s ∷ t ∷ ps) e = absurd (omega (arith, e))
 
--- ---- the parameters of a subframe
+-- ---- the inputs
 pub parameters-are : (sheet : List ℤ) (k : ℕ) (lag : PitchLag) {x y : ℤ} {code : List ℤ} → x ≡ at sheet (14 + 2 * k) → y ≡ at sheet (15 + 2 * k) → code ≡ innovationOf sheet k
-    → _≡_ {A = Parameters} (record { lag = lag; pitch = record { 0 = x }; code = record { 0 = y }; innovation = code }) (parametersOf sheet k lag)
-parameters-are sheet k lag ex ey ec = λ i. record { lag = lag; pitch = record { 0 = ex i }; code = record { 0 = ey i }; innovation = ec i }
+    → subframeOf (record { lag = lag; pitch = record { 0 = x }; code = record { 0 = y }; innovation = code }) ≡ subframeAt sheet k (lagOf lag)
+parameters-are sheet k lag ex ey ec = λ i. record { lag = lagOf lag; pitch = ex i; code = ey i; innovation = ec i }
 
-pub subframes-are : (sheet : List ℤ) {l : FourLags} {a b c d : Parameters} → l ≡ fourLags (lagsOf sheet)
-    → a ≡ parametersOf sheet 0 (l .a) → b ≡ parametersOf sheet 1 (l .b) → c ≡ parametersOf sheet 2 (l .c) → d ≡ parametersOf sheet 3 (l .d)
-    → _≡_ {A = Subframes} (record { a = a; b = b; c = c; d = d }) (subframesOf sheet)
-subframes-are sheet e ea eb ec ed = rw (ea, eb, ec, ed, e)
-
--- ---- every lag lies in 19..=144
-lawful-range : (l : Lag) → Lawful l → (19 ≤ pitchLag l .samples) × (pitchLag l .samples ≤ 144)
-lawful-range l w = rw (w .is) (w .from, w .to)
-
-absolute-range : (z : ℤ) → pos 0 ≤ℤ z → z ≤ℤ pos 255 → Lawful (absolute z)
-absolute-range (pos n) h k = absolute-lawful n (omega (arith, leb→le n 255 (k .le)))
-absolute-range (negsuc n) h k = absurd (h .le)
-
-relative-range : (z : ℤ) (l : Lag) → pos 0 ≤ℤ z → z ≤ℤ pos 31 → Lawful l → Lawful (relative z (l .samples))
-relative-range (pos n) l h k w = rw (w .is) (relative-lawful n (w .samples) (omega (arith, leb→le n 31 (k .le))))
-relative-range (negsuc n) l h k w = absurd (h .le)
-
-pub lags-lawful : (sheet : List ℤ) → Ready sheet → Lags (subframesOf sheet)
-unfolding lagsOf
-lags-lawful sheet r =
-    let a = absolute-range (at sheet 10) (r .index-a .0) (r .index-a .1) in
-    let c = absolute-range (at sheet 12) (r .index-c .0) (r .index-c .1) in
-    record {
-      a = lawful-range _ a;
-      b = lawful-range _ (relative-range (at sheet 11) (absolute (at sheet 10)) (r .index-b .0) (r .index-b .1) a);
-      c = lawful-range _ c;
-      d = lawful-range _ (relative-range (at sheet 13) (absolute (at sheet 12)) (r .index-d .0) (r .index-d .1) c);
-    }
+pub inputs-are : (sheet : List ℤ) (l : FourLags) (a b c d : Parameters) {lsfs : List ℤ} → lsfs ≡ lsfsOf sheet → fourLags l ≡ lagsOf sheet
+    → subframeOf a ≡ subframeAt sheet 0 (lagOf (l .a)) → subframeOf b ≡ subframeAt sheet 1 (lagOf (l .b)) → subframeOf c ≡ subframeAt sheet 2 (lagOf (l .c)) → subframeOf d ≡ subframeAt sheet 3 (lagOf (l .d))
+    → inputsOf (record { lsfs = lsfs; a = a; b = b; c = c; d = d }) ≡ sheetInputs sheet
+inputs-are sheet l a b c d e el ea eb ec ed =
+    λ i. record { lsfs = e i; subframes = (four ∙ ap (subframesFrom sheet 0) el) i }
+  where
+    four : inputsOf (record { lsfs = []; a = a; b = b; c = c; d = d }) .subframes ≡ subframesFrom sheet 0 (fourLags l)
+    four = λ i. ea i ∷ eb i ∷ ec i ∷ ed i ∷ []

@@ -1,31 +1,32 @@
 -- The frame call: the core of the frame (Decoder_amr of TS 26.073), then the postfilter over its synthesis samples (Post_Filter).
 use mathlib.Core.Bool.{Bool, false, cond}
-use mathlib.Core.List.{List, [], _∷_, _++_, map}
+use mathlib.Core.List.{List, [], _++_, map}
 use lib.IntN.{ℤ, pos}
 use lib.ListN.{length, replicate}
 use Rattle.basicop.specs.Ops.{Quotient}
 use Rattle.pitch.specs.Lag.{Lag}
 use Rattle.lpc.specs.declared.Rows.{Rows}
-use Rattle.decoder.specs.Core.{Turn, Turns, Decoded, decoded, toldRun}
+use Rattle.decoder.specs.Inputs.{SubframeInputs, FrameInputs}
+use Rattle.decoder.specs.Core.{Turn, Decoded, decoded, flagsOf, samplesOf, quotientsOf}
 use Rattle.postfilter.specs.Postfilter.{Processed, processed}
 use Rattle.state.specs.declared.State.{State}
 use Rattle.outcome.specs.declared.Outcome.{Outcome}
 use Rattle.outcome.specs.Outcome.{isAccepted}
 use Rattle.mr74.specs.declared.FrameAnswer.{FrameAnswer}
-use Rattle.mr74.specs.Sheet.{lsfsOf, Lags, lagsOf, subframesOf}
+use Rattle.mr74.specs.Sheet.{sheetInputs}
 use Rattle.mr74.specs.Checks.{frameOutcome}
 
--- ---- a frame, of an accepted sheet and state
+-- ---- a frame, of its inputs and an accepted state
 -- the core takes and gives the core's part of the state alone
-abbrev pub coreOf : List ℤ → State → Decoded
-coreOf sheet s = decoded (s .core) (lsfsOf sheet) (subframesOf sheet)
+abbrev pub coreOf : FrameInputs → State → Decoded
+coreOf inputs s = decoded (s .core) inputs
 
 -- the postfilter has its own memory, the rows and the synthesis samples
-abbrev pub postOf : List ℤ → State → Processed
-postOf sheet s = processed (s .post) (coreOf sheet s .rows) (toldRun (coreOf sheet s .turns) .samples)
+abbrev pub postOf : FrameInputs → State → Processed
+postOf inputs s = processed (s .post) (coreOf inputs s .rows) (samplesOf (coreOf inputs s .turns))
 
-abbrev pub nextOf : List ℤ → State → State
-nextOf sheet s = record { core = coreOf sheet s .turns .d .next; post = postOf sheet s .output .memory }
+abbrev pub nextOf : FrameInputs → State → State
+nextOf inputs s = record { core = coreOf inputs s .next; post = postOf inputs s .output .memory }
 
 -- ---- all that document 01 speaks of in a call
 pub record Trace : Type 0 where
@@ -46,32 +47,20 @@ pub record Trace : Type 0 where
   pub output : List ℤ
   pub next : State
 
-abbrev pub listOf : Lags → List Lag
-listOf l = l .a ∷ l .b ∷ l .c ∷ l .d ∷ []
-
-abbrev pub turnsOf : Turns → List Turn
-turnsOf t = t .a ∷ t .b ∷ t .c ∷ t .d ∷ []
-
-abbrev pub flagsOf : List Turn → List Bool
-flagsOf ts = map (λ (t : Turn). t .made .retried) ts
-
-abbrev pub quotientsOf : Turns → List Quotient
-quotientsOf t = t .a .quotients ++ (t .b .quotients ++ (t .c .quotients ++ t .d .quotients))
-
-abbrev pub acceptedTrace : Outcome → List ℤ → State → Trace
-acceptedTrace o sheet s =
-    let c = coreOf sheet s in
-    let p = postOf sheet s in
+abbrev pub acceptedTrace : Outcome → FrameInputs → State → Trace
+acceptedTrace o inputs s =
+    let c = coreOf inputs s in
+    let p = postOf inputs s in
     record {
       outcome = o;
       rows = c .rows;
-      lags = listOf (lagsOf sheet);
-      turns = turnsOf (c .turns);
-      flags = flagsOf (turnsOf (c .turns));
+      lags = map (λ (p : SubframeInputs). p .lag) (inputs .subframes);
+      turns = c .turns;
+      flags = flagsOf (c .turns);
       tilts = p .tilts;
       quotients = quotientsOf (c .turns) ++ p .quotients;
       output = p .output .samples;
-      next = nextOf sheet s;
+      next = nextOf inputs s;
     }
 
 -- rows all zero, flags 0, no subframe, the output as it was, the state as it came
@@ -81,11 +70,13 @@ zeroRows = record { a = replicate 11 (pos 0); b = replicate 11 (pos 0); c = repl
 abbrev pub refusedTrace : Outcome → State → List ℤ → Trace
 refusedTrace o s out = record { outcome = o; rows = zeroRows; lags = []; turns = []; flags = replicate 4 false; tilts = []; quotients = []; output = out; next = s }
 
+-- of what a call comes to, its inputs, the state and the lent output
+abbrev pub traceBy : Outcome → FrameInputs → State → List ℤ → Trace
+traceBy o inputs s out = cond (isAccepted o) (acceptedTrace o inputs s) (refusedTrace o s out)
+
 -- of a sheet, a state and the lent output
 unfoldable pub frameTrace : List ℤ → State → List ℤ → Trace
-frameTrace sheet s out =
-    let o = frameOutcome sheet s (length out) in
-    cond (isAccepted o) (acceptedTrace o sheet s) (refusedTrace o s out)
+frameTrace sheet s out = traceBy (frameOutcome sheet s (length out)) (sheetInputs sheet) s out
 
 -- ---- what the call gives: its answer, and the lent output afterwards
 pub record Called : Type 0 where

@@ -1,20 +1,22 @@
 -- What inner functions of the frame call ask and give. The contract of the call itself does not use it.
 use mathlib.Core.Path.{_≡_}
 use mathlib.Core.Bool.{false}
-use mathlib.Core.List.{List}
+use mathlib.Core.List.{List, [], _∷_}
 use lib.IntN.{ℤ, pos}
 use lib.ListN.{length, replicate}
 use lib.Signed.{_≤ℤ_}
 use Rattle.lists.specs.Lists.{at}
-use Rattle.pitch.specs.Lag.{pitchLag}
+use Rattle.pitch.specs.Lag.{Lag, lagOf}
 use Rattle.spectral.specs.Lsp.{Frequencies}
+use Rattle.decoder.specs.Inputs.{FrameInputs}
+use Rattle.decoder.specs.Core.{flagsOf}
 use Rattle.state.specs.declared.State.{State}
 use Rattle.outcome.specs.declared.Outcome.{Outcome}
 use Rattle.mr74.specs.declared.FourLags.{FourLags}
 use Rattle.mr74.specs.declared.Decoded.{Decoded}
 use Rattle.mr74.specs.declared.FrameAnswer.{FrameAnswer}
-use Rattle.mr74.specs.Sheet.{lsfsOf, Lags}
-use Rattle.mr74.specs.Frame.{coreOf, postOf, nextOf, turnsOf, flagsOf, zeroRows}
+use Rattle.mr74.specs.Sheet.{lsfsOf}
+use Rattle.mr74.specs.Frame.{coreOf, postOf, nextOf, zeroRows}
 
 -- a sheet that has passed the checks 1, 2 and 3
 pub record Ready (sheet : List ℤ) : Type 0 where
@@ -26,13 +28,13 @@ pub record Ready (sheet : List ℤ) : Type 0 where
   pub index-d : (pos 0 ≤ℤ at sheet 13) × (at sheet 13 ≤ℤ pos 31)
 
 -- the code's four lags
-abbrev pub fourLags : Lags → FourLags
-fourLags l = record { a = pitchLag (l .a); b = pitchLag (l .b); c = pitchLag (l .c); d = pitchLag (l .d) }
+abbrev pub fourLags : FourLags → List Lag
+fourLags l = lagOf (l .a) ∷ lagOf (l .b) ∷ lagOf (l .c) ∷ lagOf (l .d) ∷ []
 
 -- what an accepted call gives
-unfoldable pub decodedOf : List ℤ → State → Decoded
-decodedOf sheet s =
-    record { rows = coreOf sheet s .rows; flags = flagsOf (turnsOf (coreOf sheet s .turns)); samples = postOf sheet s .output .samples; next = nextOf sheet s }
+unfoldable pub decodedOf : FrameInputs → State → Decoded
+decodedOf inputs s =
+    record { rows = coreOf inputs s .rows; flags = flagsOf (coreOf inputs s .turns); samples = postOf inputs s .output .samples; next = nextOf inputs s }
 
 -- and a refused one
 abbrev pub refusal : Outcome → State → FrameAnswer

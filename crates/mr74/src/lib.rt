@@ -7,14 +7,16 @@ ghost use lib.IntN.{pos};
 ghost use lib.ListN.{length};
 ghost use lib.Signed.{_≤ℤ_};
 ghost use Rattle.outcome.specs.Checks.{firstMet};
-ghost use Rattle.mr74.specs.Sheet.{lsfsOf, lagsOf, innovationOf, parametersOf, subframesOf};
 ghost use Rattle.mr74.specs.Checks.{lengthChecks, lsfChecks, pitchChecks, gainChecks, sheetChecks, frameOutcome};
+ghost use Rattle.decoder.specs.Inputs.{subframeOf, inputsOf, Usable};
+ghost use Rattle.pitch.specs.Lag.{lagOf};
+ghost use Rattle.mr74.specs.Sheet.{lsfsOf, lagsOf, innovationOf, subframeAt, sheetInputs};
 ghost use Rattle.mr74.specs.Frame.{called, frameCall};
 ghost use Rattle.mr74.specs.Inner.{Ready, fourLags, decodedOf, refusal};
 use basicop::Q1;
 use basicop::Q14;
+use decoder::Inputs;
 use decoder::Parameters;
-use decoder::Subframes;
 use lpc::Rows;
 use outcome::Outcome;
 use pitch::PitchLag;
@@ -59,7 +61,7 @@ struct FourLags {
 
 fn lags(sheet: &[i16]) -> FourLags
     requires { ⌜ Ready (now sheet) ⌝ }
-    ensures { λ r. ⌜ r ≡ fourLags (lagsOf (now (sheet .entry))) ⌝ }
+    ensures { λ r. ⌜ fourLags r ≡ lagsOf (now (sheet .entry)) ⌝ }
 {
     let a = PitchLag::from_absolute(byte(sheet[10]));
     let b = PitchLag::from_relative(byte(sheet[11]), a);
@@ -83,7 +85,7 @@ fn innovation(sheet: &[i16], subframe: usize) -> [i16; 40]
 // What the sheet gives for a subframe, with its lag.
 fn parameters(sheet: &[i16], subframe: usize, lag: PitchLag) -> Parameters
     requires { ⌜ (length (now sheet) ≡ 182) × (subframe < 4) ⌝ }
-    ensures { λ r. ⌜ r ≡ parametersOf (now (sheet .entry)) subframe lag ⌝ }
+    ensures { λ r. ⌜ subframeOf r ≡ subframeAt (now (sheet .entry)) subframe (lagOf lag) ⌝ }
 {
     let innovation = innovation(sheet, subframe);
     Parameters {
@@ -94,10 +96,12 @@ fn parameters(sheet: &[i16], subframe: usize, lag: PitchLag) -> Parameters
     }
 }
 
-fn subframes(sheet: &[i16]) -> Subframes
+// What the sheet gives for the frame.
+fn inputs(sheet: &[i16]) -> Inputs
     requires { ⌜ Ready (now sheet) ⌝ }
-    ensures { λ r. ⌜ r ≡ subframesOf (now (sheet .entry)) ⌝ }
+    ensures { λ r. ⌜ inputsOf r ≡ sheetInputs (now (sheet .entry)) ⌝ }
 {
+    let lsfs = lsfs(sheet);
     let lags = lags(sheet);
     let first = lags.a;
     let second = lags.b;
@@ -107,7 +111,7 @@ fn subframes(sheet: &[i16]) -> Subframes
     let b = parameters(sheet, 1, second);
     let c = parameters(sheet, 2, third);
     let d = parameters(sheet, 3, fourth);
-    Subframes { a, b, c, d }
+    Inputs { lsfs, a, b, c, d }
 }
 
 // ---- what turns a call back
@@ -216,12 +220,12 @@ struct Decoded {
 }
 
 // The core of the frame, then the postfilter.
-fn decode(sheet: &[i16], state: State) -> Decoded
-    requires { ⌜ Ready (now sheet) ⌝ }
-    ensures { λ r. ⌜ r ≡ decodedOf (now (sheet .entry)) state ⌝ }
+fn decode(state: State, inputs: Inputs) -> Decoded
+    requires { ⌜ Usable (inputsOf inputs) ⌝ }
+    ensures { λ r. ⌜ r ≡ decodedOf (inputsOf inputs) state ⌝ }
 {
     let core = state.core;
-    let frame = decoder::decode(core, lsfs(sheet), subframes(sheet));
+    let frame = decoder::decode(core, inputs);
     let rows = frame.rows;
     let run = frame.run;
     let synthesis = run.samples;
@@ -273,7 +277,7 @@ pub fn frame(sheet: &[i16], state: State, out: &mut [i16]) -> FrameAnswer
 {
     let outcome = check_frame(sheet, state, out.len());
     if outcome.accepted() {
-        let decoded = decode(sheet, state);
+        let decoded = decode(state, inputs(sheet));
         let samples = decoded.samples;
         copy(samples, out);
         let rows = decoded.rows;

@@ -1,5 +1,5 @@
 -- What the definitions of Lag.antt come to: by one computed test over all 256 indices where an index is in it. Assumes nothing.
-use mathlib.Core.Path.{_≡_, refl, sym, ap, ap₂, _∙_}
+use mathlib.Core.Path.{_≡_, refl, ap₂, _∙_}
 use mathlib.Core.Bool.{Bool, true, false, cond}
 use Prim.Native.Nat.{ℕ, min, max, _+_, _-_, _/_, _%_, _<_, _≤_}
 use native.Mathlib.Omega.{arith}
@@ -13,10 +13,7 @@ use Rattle.basicop.specs.Ops.{clamp, asr, add, sub, mult}
 use Rattle.basicop.proofs.Ints.{arithℤ, sfits-by, add-is, sub-ℤ-is}
 use Rattle.basicop.proofs.Clamp.{clamp-id}
 use Rattle.basicop.proofs.Naturals.{add-pos, sub-pos}
-use Rattle.pitch.specs.declared.Fraction.{Fraction}
-use Rattle.pitch.specs.declared.Fraction.the-variants.{MinusThird, Zero, PlusThird}
-use Rattle.pitch.specs.declared.PitchLag.{PitchLag}
-use Rattle.pitch.specs.Lag.{Lag, absolute, relative, raised-20, lowered-134, lag-min, thirdsOf, lagOf, fractionOf, pitchLag}
+use Rattle.pitch.specs.Lag.{Lag, absolute, relative, raised-20, lowered-134, lag-min}
 
 pub lag-eq : {l m : Lag} → l .samples ≡ m .samples → l .thirds ≡ m .thirds → l ≡ m
 lag-eq p q = ap₂ (λ (s t : ℤ). record { samples = s; thirds = t }) p q
@@ -154,16 +151,3 @@ relative-lawful n t h =
       to = omega (arith, m .3);
       last = λ e. let k : n ≡ 31 = omega (arith, m .3) in rw k (thirds-is 31 (lit< tt));
     })
-
--- ---- the code's lag and back
-fraction-back : (f : Fraction) → fractionOf (thirdsOf f) ≡ f
-fraction-back MinusThird = refl
-fraction-back Zero = refl
-fraction-back PlusThird = refl
-
-pub lag-back : (l : PitchLag) → pitchLag (lagOf l) ≡ l
-lag-back l = λ i. record { samples = l .samples; fraction = fraction-back (l .fraction) i }
-
--- a lag that the standard gives, as the code gives it
-pub lag-of : {l : PitchLag} {m : Lag} → lagOf l ≡ m → l ≡ pitchLag m
-lag-of {l = l} e = sym (lag-back l) ∙ ap pitchLag e

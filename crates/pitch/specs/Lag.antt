@@ -1,6 +1,6 @@
 -- Lags: Dec_lag3 of TS 26.073, and the range that its caller Decoder_amr hands it, for MR74 (TS 26.090, 6.1).
 use mathlib.Core.Bool.{cond}
-use lib.IntN.{ℤ, pos, negsuc, natAbs}
+use lib.IntN.{ℤ, pos, negsuc}
 use lib.Signed.{ltZ}
 use Rattle.basicop.specs.Ops.{add, sub, mult}
 use Rattle.pitch.specs.declared.Fraction.{Fraction}
@@ -47,9 +47,3 @@ thirdsOf PlusThird = pos 1
 
 abbrev pub lagOf : PitchLag → Lag
 lagOf l = record { samples = pos (l .samples); thirds = thirdsOf (l .fraction) }
-
-abbrev pub fractionOf : ℤ → Fraction
-fractionOf thirds = cond (ltZ thirds (pos 0)) MinusThird (cond (ltZ (pos 0) thirds) PlusThird Zero)
-
-abbrev pub pitchLag : Lag → PitchLag
-pitchLag l = record { samples = natAbs (l .samples); fraction = fractionOf (l .thirds) }

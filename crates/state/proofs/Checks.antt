@@ -3,12 +3,13 @@ use mathlib.Core.Path.{_≡_}
 use mathlib.Core.Bool.{true}
 use lib.IntN.{pos}
 use lib.Signed.{_≤ℤ_, ltZ}
-use Rattle.basicop.proofs.Tests.{less-no, or-left, or-right}
+use Rattle.basicop.proofs.Tests.{less-no, no-less, or-left, or-right}
+use Rattle.outcome.specs.declared.Outcome.the-variants.{Accepted}
 use Rattle.outcome.specs.Outcome.{isAccepted}
 use Rattle.outcome.specs.Checks.{firstMet}
 use Rattle.outcome.proofs.Checks.{Placed, none-placed, none-met}
 use Rattle.state.specs.declared.State.{State}
-use Rattle.state.specs.State.{stateChecks}
+use Rattle.state.specs.State.{stateChecks, stateOutcome}
 
 pub record Kept (s : State) : Type 0 where
   pub from : pos 0 ≤ℤ s .core .sharpening .0
@@ -24,6 +25,11 @@ kept s h =
       to = less-no (or-right (ltZ sharpening (pos 0)) (ltZ (pos 13017) sharpening) (u .0));
       gain = less-no (u .1 .0);
     }
+
+-- and such a state is accepted
+pub kept-accepted : (s : State) → Kept s → stateOutcome s ≡ Accepted
+unfolding stateOutcome firstMet
+kept-accepted s k = rw (no-less (s .core .sharpening .0) (pos 0) (k .from), no-less (pos 13017) (s .core .sharpening .0) (k .to), no-less (s .post .gain .«previous_gain») (pos 0) (k .gain))
 
 pub state-placed : (s : State) → Placed (stateChecks s)
 state-placed s = none-placed (stateChecks s) tt

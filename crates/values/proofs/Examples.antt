@@ -1,6 +1,7 @@
 -- The calls of specs/Examples.antt, computed from the definition. Assumes nothing.
 use mathlib.Core.Path.{_≡_, refl, ap}
 use mathlib.Core.Bool.{false, cond, _||_}
+use mathlib.Core.List.{flatMap}
 use Prim.Native.Nat.{ℕ, zero, suc}
 use lib.IntN.{pos}
 use lib.ListN.{replicate, getD, length-replicate}
@@ -33,7 +34,7 @@ use Rattle.state.specs.State.{WellFormed, stateOutcome, stateOf}
 use Rattle.mr74.specs.Sheet.{lagsOf}
 use Rattle.mr74.specs.Checks.{frameOutcome}
 use Rattle.mr74.specs.Frame.{frameTrace}
-use Rattle.demand3.specs.Calls.{traceOf, runCalls, anyAccepted, latestFlag}
+use Rattle.calls.specs.Calls.{traceOf, runCalls, anyAccepted, latestFlag}
 use Rattle.values.specs.Examples.{silent, loud, call, Seen, seen, expected, Example, ordered, FrameOrder, placed, Places}
 
 -- n zeros
@@ -60,7 +61,7 @@ silent-well-formed =
     }
 
 seen-is : seen (traceOf silent call) ≡ expected
-unfolding iter tab clamp asr wrap add sub mult shl L-add L-sub L-mult L-shl L-shr-r L-deposit-h doublings norm-l div-s L-Extract Mpy-32-16 absolute lag-min relative cosine between lspOf raisedAt polynomial rowOf rowsOf inter6 phase start interpolated extended predicted sharpened sharpening feedback squares energy energyGain agc2 inverseTable rootScaled rootIndex rootFraction rootBetween inverseRoot outside fed numbersOf leaves leavesAny acc accs enhanced firstExcitation synthesised excited turn ran decoded firstMet stateOf lagsOf firstOutside frameOutcome frameTrace loud silent numerator denominator weighted residualSum residual tilts.impulse tilts.energy tilts.correlation tilts.tiltOf tilts.tilt preemphasised filtered processed agc controlled
+unfolding flatMap iter tab clamp asr wrap add sub mult shl L-add L-sub L-mult L-shl L-shr-r L-deposit-h doublings norm-l div-s L-Extract Mpy-32-16 absolute lag-min relative cosine between lspOf raisedAt polynomial rowOf rowsOf inter6 phase start interpolated extended predicted sharpened sharpening feedback squares energy energyGain agc2 inverseTable rootScaled rootIndex rootFraction rootBetween inverseRoot outside fed numbersOf leaves leavesAny acc accs enhanced firstExcitation synthesised excited turn ran decoded firstMet stateOf lagsOf firstOutside frameOutcome frameTrace loud silent numerator denominator weighted residualSum residual tilts.impulse tilts.energy tilts.correlation tilts.tiltOf tilts.tilt preemphasised filtered processed agc controlled
 seen-is = refl
 
 pub example : Example

@@ -15,7 +15,7 @@ use Rattle.outcome.specs.Outcome.{numberOf, placeOf}
 use Rattle.state.specs.State.{WellFormed, stateOutcome, stateOf}
 use Rattle.mr74.specs.Checks.{frameOutcome}
 use Rattle.mr74.specs.Frame.{Trace}
-use Rattle.demand3.specs.Calls.{Call, Frame, traceOf, runCalls, accepted, anyAccepted, latestFlag}
+use Rattle.calls.specs.Calls.{Call, Frame, traceOf, runCalls, accepted, anyAccepted, latestFlag}
 
 -- 197 zeros
 unfoldable pub silent : State

@@ -1,3 +1,4 @@
+-- The core of a frame, from LSPs, rows and subframes: decoded-is.
 use borrow.Author.Needs.{needs}
 use Rattle.decoder.proofs.Turns.{decoded-is}
 use Rattle.decoder.proofs.decode.Statement.{statement}
@@ -7,8 +8,8 @@ returns : tie.Need-returns
 returns c =
     let rows = c .before .before .before .before in
     let lsps = rows .before .before in
-    let s = lsps .before in
-    decoded-is (s .args .core) (s .args .lsf) (s .args .p) (lsps .lsf-to-lsp .ensures) (rows .interpolate .ensures) (c .run .ensures)
+    let s = lsps .before .before in
+    decoded-is (s .args .core) (s .args .inputs) (lsps .lsf-to-lsp .ensures) (rows .interpolate .ensures) (c .run .ensures)
 
 pub decode-spec : {M : Type 1} → statement M
 decode-spec =

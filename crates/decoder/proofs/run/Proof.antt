@@ -1,3 +1,4 @@
+-- The four subframes are those of the list: ran-is, from the four steps and the samples joined.
 use borrow.Author.Needs.{needs}
 use Rattle.decoder.proofs.Turns.{ran-is}
 use Rattle.decoder.proofs.run.Statement.{statement}
@@ -10,7 +11,7 @@ returns c =
     let b = t .before .before .before .before in
     let a = b .before .before .before .before in
     let s = a .before .before .before in
-    ran-is (s .args .core) (s .args .rows) (s .args .p) (a .turn .ensures) (b .turn2 .ensures) (t .turn3 .ensures) (d .turn4 .ensures) (c .joined .ensures)
+    ran-is (s .args .core) (s .args .rows) (s .args .inputs) (a .turn .ensures) (b .turn2 .ensures) (t .turn3 .ensures) (d .turn4 .ensures) (c .joined .ensures)
 
 pub run-spec : {M : Type 1} → statement M
 run-spec =
@@ -19,6 +20,6 @@ run-spec =
     (λ c κs. search needs)
     (λ c κs. search needs)
     (λ c κs. search needs)
-    (λ c κs. search needs)
+    (λ c κs. c .before .before .before .before .before .before .before .before .before .before .before .before .before .before .pre .1 .1 .1 .0)
     (λ c κs. search needs)
     returns)

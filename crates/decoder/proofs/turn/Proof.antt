@@ -1,3 +1,4 @@
+-- The subframe step, from excitation, synthesis, sharpening and history: turned-is.
 use borrow.Author.Needs.{needs}
 use Rattle.decoder.proofs.Turns.{turned-is}
 use Rattle.decoder.proofs.turn.Statement.{statement}

@@ -2,7 +2,7 @@ use mathlib.Core.Path.{ap, _∙_}
 use Prim.Native.Nat.{_≤_, _-_}
 use borrow.Author.Needs.{needs}
 use mathlib.Core.List.{[]}
-use lib.IntN.{ℤ}
+use lib.IntN.{ℤ, pos}
 use mir.Syntax.{w16}
 use mir.Val.{SFits, toZ}
 use mir.Facts.{toZ-ofZ}
@@ -35,7 +35,7 @@ returns c =
     let s = c .before .before .before .before in
     let d = c .before .before .before .doubled in
     let f : SFits w16 (d .result .0) = search needs in
-    sharper-done _ _ _ (c .before .loop .inv .1) (search needs) ∙ ap (λ (g : ℤ). iter (grow (sharpenedAt (s .args .innovation) (s .args .lag) g)) 40 []) (toZ-ofZ f ∙ d .ensures)
+    sharper-done _ _ _ (c .before .loop .inv .1) (search needs) ∙ ap (λ (g : ℤ). iter (grow (sharpenedAt (s .args .innovation) (pos (s .args .lag)) g)) 40 []) (toZ-ofZ f ∙ d .ensures)
 
 pub sharpen-spec : {M : Type 1} → statement M
 sharpen-spec =

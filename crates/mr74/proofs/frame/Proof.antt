@@ -1,9 +1,13 @@
-use mathlib.Core.Path.{ap, sym, _∙_}
+-- The checks, then the frame or the refusal: answer-accepted, answer-refused. What the checks have shown makes the sheet's inputs usable.
+use mathlib.Core.Path.{ap, sym, _∙_, subst}
 use borrow.Author.Needs.{needs}
 use denote.Ref.{now}
 use lib.ListN.{length}
+use Rattle.decoder.specs.Inputs.{FrameInputs, Usable}
 use Rattle.outcome.specs.Outcome.{isAccepted}
+use Rattle.mr74.specs.Inner.{decodedOf}
 use Rattle.mr74.proofs.Passed.{Passed, passed}
+use Rattle.mr74.proofs.Usable.{usable}
 use Rattle.mr74.proofs.Answers.{answer-accepted, answer-refused}
 use Rattle.mr74.proofs.frame.Statement.{statement}
 use Rattle.mr74.proofs.frame.Tie as tie
@@ -15,20 +19,23 @@ shown c =
     let a = v .before .args in
     passed (now (a .sheet)) (a .state) (length (now (a .out))) (ap isAccepted (sym (v .check-frame .ensures)) ∙ sym (c .before .accepted .ensures) ∙ c .if1 .taken)
 
+inputs-requires : tie.Need-inputs-requires
+inputs-requires c κs = shown c .ready
+
 decode-requires : tie.Need-decode-requires
-decode-requires c κs = shown c .ready
+decode-requires c κs = subst Usable (sym (c .inputs .ensures)) (usable (shown (c .before)))
 
 copy-requires : tie.Need-copy-requires
-copy-requires c κs = shown (c .before .before .before) .lent
+copy-requires c κs = shown (c .before .before .before .before) .lent
 
 returns : tie.Need-returns
 returns c =
     let k = c .before .before .before .before in
     let d = k .before .before .before in
-    let t = d .before in
+    let t = d .before .before in
     let v = t .before .before in
     let a = v .before .args in
-    answer-accepted (now (a .sheet)) (a .state) (now (a .out)) (v .check-frame .ensures) (sym (t .before .accepted .ensures) ∙ t .if1 .taken) (d .decode .ensures) (k .copy .ensures)
+    answer-accepted (now (a .sheet)) (a .state) (now (a .out)) (v .check-frame .ensures) (sym (t .before .accepted .ensures) ∙ t .if1 .taken) (d .decode .ensures ∙ ap (λ (i : FrameInputs). decodedOf i (a .state)) (d .before .inputs .ensures)) (k .copy .ensures)
 
 returns-2 : tie.Need-returns-2
 returns-2 c =
@@ -43,6 +50,7 @@ frame-spec =
     (tie.spec
     (λ c κs. search needs)
     (λ c κs. search needs)
+    inputs-requires
     decode-requires
     copy-requires
     (λ c. search needs)

@@ -1,3 +1,4 @@
+-- The four lags, from the four indices, which fit a byte: lags-are.
 use mathlib.Core.Path.{_∙_}
 use borrow.Author.Needs.{needs}
 use denote.Ref.{now}
@@ -28,7 +29,7 @@ returns c =
     let k = c .before .before .before in
     let j = k .before .before .before in
     let i = j .before .before .before in
-    lags-are (now (i .before .before .before .args .sheet))
+    lags-are (now (i .before .before .before .args .sheet)) (i .from-absolute .result) (j .from-relative .result) (k .from-absolute2 .result) (c .from-relative2 .result)
     (i .before .byte .ensures ∙ back w16 (i .before .before .byte-arg .given)) (j .before .byte2 .ensures ∙ back w16 (j .before .before .byte-arg2 .given))
     (k .before .byte3 .ensures ∙ back w16 (k .before .before .byte-arg3 .given)) (c .before .byte4 .ensures ∙ back w16 (c .before .before .byte-arg4 .given))
     (i .from-absolute .ensures) (j .from-relative .ensures) (k .from-absolute2 .ensures) (c .from-relative2 .ensures)

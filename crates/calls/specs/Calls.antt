@@ -1,4 +1,4 @@
--- Lists of frame calls: document 01, "each call given the state that the last one gave back".
+-- The kinds of calls, and lists of them: document 01, "each call given the state that the last one gave back".
 use mathlib.Core.Bool.{Bool, false, cond, _||_}
 use mathlib.Core.List.{List, [], _∷_}
 use lib.IntN.{ℤ}

@@ -1,0 +1,107 @@
+-- One call: what it gives, and what it keeps. A kind of call has a clause in `accepts` and one in `refuses`. Assumes nothing.
+use mathlib.Core.Path.{_≡_, refl, sym, ap, _∙_, subst}
+use mathlib.Core.Bool.{Bool, true, false}
+use mathlib.Core.List.{List}
+use lib.IntN.{ℤ, pos}
+use lib.ListN.{length, getD}
+use lib.Signed.{_≤ℤ_}
+use Rattle.lists.specs.Lists.{Every}
+use Rattle.decoder.specs.Inputs.{FrameInputs, Usable}
+use Rattle.decoder.proofs.Retry.{Small}
+use Rattle.state.specs.declared.State.{State}
+use Rattle.outcome.specs.declared.Outcome.{Outcome}
+use Rattle.outcome.specs.declared.Outcome.the-variants.{Accepted}
+use Rattle.outcome.specs.Outcome.{isAccepted}
+use Rattle.state.specs.State.{WellFormed, stateOutcome}
+use Rattle.state.proofs.Checks.{Kept, kept-accepted}
+use Rattle.mr74.specs.Sheet.{sheetInputs}
+use Rattle.mr74.specs.Checks.{frameOutcome}
+use Rattle.mr74.specs.Frame.{Trace, acceptedTrace, refusedTrace, traceBy, frameTrace}
+use Rattle.mr74.proofs.Passed.{passed}
+use Rattle.mr74.proofs.Usable.{usable}
+use Rattle.calls.specs.Calls.{Call, Frame, traceOf, nextState, accepted}
+use Rattle.calls.proofs.Frames.{frame-sharpening, frame-gain, frame-small, frame-well-formed, frame-passes}
+
+-- by cases
+pub decided : {P : Type 0} (b : Bool) → (b ≡ true → P) → (b ≡ false → P) → P
+decided true f g = f refl
+decided false f g = g refl
+
+-- ---- a call, by what it comes to
+module _ (o : Outcome) (inputs : FrameInputs) (s : State) (out : List ℤ) where
+  by-accepted : isAccepted o ≡ true → traceBy o inputs s out ≡ acceptedTrace o inputs s
+  by-accepted e = rw e
+
+  by-refused : isAccepted o ≡ false → traceBy o inputs s out ≡ refusedTrace o s out
+  by-refused e = rw e
+
+  -- a trace is accepted exactly when no check turns the call back
+  told : accepted (traceBy o inputs s out) ≡ isAccepted o
+  told = decided (isAccepted o) (λ e. ap accepted (by-accepted e)) (λ e. ap accepted (by-refused e))
+
+-- ---- an accepted call: its trace is that of usable inputs, and the state's checks let its state pass
+pub record Accepts (s : State) (c : Call) : Type 0 where
+  pub outcome : Outcome
+  pub inputs : FrameInputs
+  pub usable : Usable inputs
+  pub state : Kept s
+  pub trace : traceOf s c ≡ acceptedTrace outcome inputs s
+
+pub accepts : (s : State) (c : Call) → accepted (traceOf s c) ≡ true → Accepts s c
+unfolding frameTrace
+accepts s (Frame sheet out) e =
+    let o = frameOutcome sheet s (length out) in
+    let a = sym (told o (sheetInputs sheet) s out) ∙ e in
+    let p = passed sheet s (length out) a in
+    record { outcome = o; inputs = sheetInputs sheet; usable = usable p; state = p .state; trace = by-accepted o (sheetInputs sheet) s out a }
+
+-- a refused one gives the state back, and has no subframe
+pub record Refuses (s : State) (c : Call) : Type 0 where
+  pub outcome : Outcome
+  pub out : List ℤ
+  pub trace : traceOf s c ≡ refusedTrace outcome s out
+
+pub refuses : (s : State) (c : Call) → accepted (traceOf s c) ≡ false → Refuses s c
+unfolding frameTrace
+refuses s (Frame sheet out) e =
+    let o = frameOutcome sheet s (length out) in
+    record { outcome = o; out = out; trace = by-refused o (sheetInputs sheet) s out (sym (told o (sheetInputs sheet) s out) ∙ e) }
+
+pub next-refused : (s : State) (c : Call) → accepted (traceOf s c) ≡ false → nextState s c ≡ s
+next-refused s c e = ap (λ (t : Trace). t .next) (refuses s c e .trace)
+
+-- ---- what an accepted call leaves, from a well-formed state
+-- all 154 past excitations in -8192..=8191
+abbrev pub SmallPast : State → Type 0
+SmallPast s = (length (s .core .past) ≡ 154) × Every Small (s .core .past)
+
+module _ (s : State) (c : Call) (w : WellFormed s) (e : accepted (traceOf s c) ≡ true) where
+  abbrev a : Accepts s c
+  a = accepts s c e
+
+  -- of its frame
+  left : (P : State → Type 0) → P (acceptedTrace (a .outcome) (a .inputs) s .next) → P (nextState s c)
+  left P = subst (λ (t : Trace). P (t .next)) (sym (a .trace))
+
+  pub after-sharpening : (pos 0 ≤ℤ nextState s c .core .sharpening .0) × (nextState s c .core .sharpening .0 ≤ℤ pos 13017)
+  after-sharpening = left (λ (t : State). (pos 0 ≤ℤ t .core .sharpening .0) × (t .core .sharpening .0 ≤ℤ pos 13017)) (frame-sharpening (a .inputs) s (a .usable) w (a .state))
+
+  -- at most 32748, where demand 3 asks for 32765
+  pub after-gain : (pos 0 ≤ℤ nextState s c .post .gain .«previous_gain») × (nextState s c .post .gain .«previous_gain» ≤ℤ pos 32748)
+  after-gain = left (λ (t : State). (pos 0 ≤ℤ t .post .gain .«previous_gain») × (t .post .gain .«previous_gain» ≤ℤ pos 32748)) (frame-gain (a .inputs) s (a .usable) w (a .state))
+
+  -- the state's checks accept it
+  pub after-accepted : stateOutcome (nextState s c) ≡ Accepted
+  after-accepted = left (λ (t : State). stateOutcome t ≡ Accepted) (kept-accepted _ (frame-passes (a .inputs) s (a .usable) w (a .state)))
+
+  after-well-formed : WellFormed (nextState s c)
+  after-well-formed = left WellFormed (frame-well-formed (a .inputs) s (a .usable) w (a .state))
+
+  -- after a retried last subframe
+  pub after-retry : getD (traceOf s c .flags) 3 false ≡ true → SmallPast (nextState s c)
+  after-retry =
+      subst (λ (t : Trace). getD (t .flags) 3 false ≡ true → SmallPast (t .next)) (sym (a .trace))
+      (λ f. (frame-well-formed (a .inputs) s (a .usable) w (a .state) .past .count, frame-small (a .inputs) s (a .usable) w (a .state) f))
+
+pub next-well-formed : (s : State) (c : Call) → WellFormed s → WellFormed (nextState s c)
+next-well-formed s c w = decided (accepted (traceOf s c)) (after-well-formed s c w) (λ e. subst WellFormed (sym (next-refused s c e)) w)

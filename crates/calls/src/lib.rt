@@ -1,0 +1,1 @@
+// Lists of calls. The crate has definitions and theorems, and no function.
