@@ -4,14 +4,16 @@ use mathlib.Core.Bool.{true}
 use mathlib.Core.List.{List, _++_, append-assoc}
 use Prim.Native.Nat.{ℕ, _+_, _-_}
 use native.Mathlib.Omega.{arith}
+use lib.IntN.{ℤ}
 use lib.ListN.{length, take, drop, length-append}
 use lib.Seq.{take-at, drop-at}
 use Rattle.lists.specs.Lists.{at}
 use Rattle.state.specs.declared.State.{State}
 use Rattle.state.specs.declared.Outcome.the-variants.{Accepted}
 use Rattle.state.specs.Outcome.{firstMet, isAccepted}
-use Rattle.state.specs.State.{WellFormed, stateRows, stateVerdict, numbersOf, stateOf}
-use Rattle.state.proofs.Numbers.{state-of-numbers, numbers-words}
+use Rattle.state.specs.State.{WellFormed, stateRows, stateVerdict}
+use Rattle.state.specs.Layout.{numbersOf, stateOf}
+use Rattle.state.proofs.Numbers.{state-of-numbers, numbers-words, sharpening-at, gain-at}
 use Rattle.coding.specs.Bytes.{words, bytesOf}
 use Rattle.record.specs.Record.{distanceOf, noteLength, numbersIn, trailerRows, recordVerdict, told, readCall, trailerBytes, encoded}
 use Rattle.record.specs.Handover.{ReadBack, SameVerdict, SameRest}
@@ -74,9 +76,10 @@ module _ (s : State) (w : WellFormed s) (note : List ℕ) where
   state-is = ap stateOf numbers-are ∙ state-of-numbers s w
 
   verdict-is : recordVerdict b ≡ stateVerdict s
-  unfolding stateVerdict stateOf
+  unfolding stateVerdict
   verdict-is =
       sym (numbers-told b (omega (arith, total)) trailer-passes (omega (arith, total)))
+      ∙ ap₂ (λ (x y : ℤ). firstMet (stateRows x y)) (sym (sharpening-at (numbersIn b))) (sym (gain-at (numbersIn b)))
       ∙ ap (λ (t : State). firstMet (stateRows (t .core .sharpening .0) (t .post .gain .«previous_gain»))) state-is
 
   back : stateVerdict s ≡ Accepted → readCall b ≡ told (record { outcome = Accepted; state = s }) note

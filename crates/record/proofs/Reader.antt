@@ -12,7 +12,8 @@ use Rattle.state.specs.declared.State.{State}
 use Rattle.state.specs.declared.Outcome.{Outcome}
 use Rattle.state.specs.declared.Outcome.the-variants.{RecordShort, BodyShort}
 use Rattle.state.specs.Outcome.{Row, row, firstMet, isAccepted}
-use Rattle.state.specs.State.{stateRows, stateOf}
+use Rattle.state.specs.State.{stateRows}
+use Rattle.state.specs.Layout.{stateOf}
 use Rattle.coding.specs.Bytes.{words}
 use Rattle.record.specs.declared.Answer.{Answer}
 use Rattle.record.specs.Record.{distanceOf, noteLength, noteOf, numbersIn, trailerRows, bodyRows, recordVerdict, zeroState, told, readCall}

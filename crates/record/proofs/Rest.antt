@@ -7,7 +7,7 @@ use native.Mathlib.Omega.{arith}
 use lib.ListN.{length, take, drop, take-append-drop}
 use lib.Seq.{drop-drop, getD-drop, length-take-le}
 use Rattle.state.specs.Outcome.{isAccepted}
-use Rattle.state.specs.State.{numbersOf}
+use Rattle.state.specs.Layout.{numbersOf}
 use Rattle.state.proofs.Numbers.{numbers-of-state}
 use Rattle.coding.specs.Bytes.{words, bytesOf, Bytes}
 use Rattle.record.specs.Record.{distanceOf, numbersIn, recordVerdict, readCall, encoded}

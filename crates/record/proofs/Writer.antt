@@ -12,7 +12,8 @@ use Rattle.state.specs.declared.State.{State}
 use Rattle.state.specs.declared.Outcome.{Outcome}
 use Rattle.state.specs.declared.Outcome.the-variants.{OutputLength}
 use Rattle.state.specs.Outcome.{firstMet, isAccepted}
-use Rattle.state.specs.State.{stateVerdict, numbersOf}
+use Rattle.state.specs.State.{stateVerdict}
+use Rattle.state.specs.Layout.{numbersOf}
 use Rattle.coding.specs.Bytes.{bytesOf}
 use Rattle.coding.proofs.Laid.{bytes-length, Laid, laid-none, laid-more, laid-done}
 use Rattle.record.specs.Record.{trailerBytes, encoded, writeRows, written, writeCall}

@@ -11,9 +11,11 @@ use Rattle.state.specs.declared.State.{State}
 use Rattle.state.specs.declared.Outcome.{Outcome}
 use Rattle.state.specs.declared.Outcome.the-variants.{OutputLength, RecordShort, Tag, Version, Layout, BodyShort}
 use Rattle.state.specs.Outcome.{Row, row, firstMet, isAccepted}
-use Rattle.state.specs.State.{stateRows, stateOf, numbersOf}
+use Rattle.state.specs.State.{stateRows}
+use Rattle.state.specs.Layout.{stateCount, numbersOf, stateOf}
 use Rattle.record.specs.declared.Answer.{Answer}
 use Rattle.coding.specs.Bytes.{unsigned, words, bytesOf}
+use Rattle.coding.specs.Body.{bodyLength}
 
 -- ---- trailers
 pub record Trailer : Type 0 where
@@ -23,7 +25,7 @@ pub record Trailer : Type 0 where
 
 -- the versions that are read; the first is the one that is written
 abbrev pub current : Trailer
-current = record { version = 1; distance = 394; count = 197 }
+current = record { version = 1; distance = bodyLength; count = stateCount }
 
 abbrev pub versions : List Trailer
 versions = current ∷ []
@@ -88,7 +90,7 @@ unfoldable pub recordVerdict : List ℕ → Outcome
 recordVerdict b = firstMet (recordRows b)
 
 abbrev pub zeroState : State
-zeroState = stateOf (replicate 197 (pos 0))
+zeroState = stateOf (replicate stateCount (pos 0))
 
 -- what the reader gives: the answer, and the note
 pub record Told : Type 0 where

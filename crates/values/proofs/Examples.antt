@@ -29,7 +29,8 @@ use Rattle.postfilter.specs.Tilt as tilts
 use Rattle.postfilter.specs.Preemphasis.{preemphasised}
 use Rattle.postfilter.specs.Postfilter.{filtered, processed}
 use Rattle.state.specs.Outcome.{firstMet}
-use Rattle.state.specs.State.{WellFormed, stateVerdict, stateOf}
+use Rattle.state.specs.State.{WellFormed, stateVerdict}
+use Rattle.state.specs.Layout.{coreOf, postOf, stateOf}
 use Rattle.mr74.specs.Sheet.{lagsOf}
 use Rattle.mr74.specs.Verdict.{firstIndexOutside, verdict}
 use Rattle.mr74.specs.Frame.{frameTrace}
@@ -46,7 +47,7 @@ zeros n = record { count = length-replicate n (pos 0); fit = fit n }
     fit (suc n) (suc i) = fit n i
 
 silent-well-formed : WellFormed silent
-unfolding silent stateOf
+unfolding silent stateOf coreOf postOf
 silent-well-formed =
     record {
       lsp = zeros 10;
@@ -60,11 +61,11 @@ silent-well-formed =
     }
 
 seen-is : seen (traceOf silent call) ≡ expected
-unfolding iter tab firstNot clamp asr wrap add sub mult shl L-add L-sub L-mult L-shl L-shr-r L-deposit-h doublings norm-l div-s L-Extract Mpy-32-16 absolute lag-min relative cosine between lspOf raisedAt polynomial rowOf rowsOf inter6 phase start interpolated extended predicted sharpened sharpening feedback squares energy energyGain agc2 inverseTable rootScaled rootIndex rootFraction rootBetween inverseRoot outside fed numbersOf leaves leavesAny acc accs enhanced firstExcitation synthesised excited turn ran decoded firstMet stateOf lagsOf firstIndexOutside verdict frameTrace loud silent numerator denominator weighted residualSum residual tilts.impulse tilts.energy tilts.correlation tilts.tiltOf tilts.tilt preemphasised filtered processed agc controlled
+unfolding iter tab firstNot clamp asr wrap add sub mult shl L-add L-sub L-mult L-shl L-shr-r L-deposit-h doublings norm-l div-s L-Extract Mpy-32-16 absolute lag-min relative cosine between lspOf raisedAt polynomial rowOf rowsOf inter6 phase start interpolated extended predicted sharpened sharpening feedback squares energy energyGain agc2 inverseTable rootScaled rootIndex rootFraction rootBetween inverseRoot outside fed numbersOf leaves leavesAny acc accs enhanced firstExcitation synthesised excited turn ran decoded firstMet stateOf coreOf postOf lagsOf firstIndexOutside verdict frameTrace loud silent numerator denominator weighted residualSum residual tilts.impulse tilts.energy tilts.correlation tilts.tiltOf tilts.tilt preemphasised filtered processed agc controlled
 seen-is = refl
 
 pub example : Example
-unfolding silent stateOf stateVerdict firstMet frameTrace verdict runCalls anyAccepted latestFlag
+unfolding silent stateOf coreOf postOf stateVerdict firstMet frameTrace verdict runCalls anyAccepted latestFlag
 example =
     record {
       well-formed = silent-well-formed;
@@ -75,9 +76,9 @@ example =
     }
 
 pub frame-order : FrameOrder
-unfolding ordered stateOf firstMet firstNot firstIndexOutside verdict
+unfolding ordered stateOf coreOf postOf firstMet firstNot firstIndexOutside verdict
 frame-order = refl
 
 pub places : Places
-unfolding placed stateOf firstMet firstNot firstIndexOutside verdict
+unfolding placed stateOf coreOf postOf firstMet firstNot firstIndexOutside verdict
 places = refl

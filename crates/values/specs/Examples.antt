@@ -12,7 +12,8 @@ use Rattle.basicop.specs.Ops.{Quotient}
 use Rattle.state.specs.declared.State.{State}
 use Rattle.state.specs.declared.Outcome.the-variants.{Accepted}
 use Rattle.state.specs.Outcome.{numberOf, placeOf}
-use Rattle.state.specs.State.{WellFormed, stateVerdict, stateOf}
+use Rattle.state.specs.State.{WellFormed, stateVerdict}
+use Rattle.state.specs.Layout.{stateOf}
 use Rattle.mr74.specs.Verdict.{verdict}
 use Rattle.mr74.specs.Frame.{Trace}
 use Rattle.demand3.specs.Calls.{Call, Frame, traceOf, runCalls, accepted, anyAccepted, latestFlag}
