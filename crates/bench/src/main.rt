@@ -2,16 +2,17 @@
 ghost use mathlib.Core.Path.{_≡_};
 ghost use lib.ListN.{length, take};
 ghost use Rattle.mr74.specs.Frame.{called};
-ghost use Rattle.lines.specs.Put.{Within};
+ghost use Rattle.lines.specs.Put.{lineRoom, Within};
 ghost use Rattle.bench.specs.Bench.{sheetCall, answerLine};
 use libc::STDIN_FILENO;
 use libc::STDOUT_FILENO;
+use lines::LINE_ROOM;
 use mr74::FrameAnswer;
 use state::State;
 
 // The line of a sheet's answer.
 fn answer_line(out: &mut [u8], number: u64, answer: FrameAnswer, samples: [i16; 160]) -> usize
-    requires { ⌜ length (now out) ≡ 80 ⌝ }
+    requires { ⌜ length (now out) ≡ lineRoom ⌝ }
     ensures line { λ r. ⌜ take r (now (out .exit)) ≡ answerLine number (called answer samples) ⌝ }
     ensures within { λ r. ⌜ Within r (now (out .exit)) ⌝ }
 {
@@ -31,7 +32,7 @@ struct Step {
 
 // Decodes the bytes of a sheet, and writes its line at the front of the lent bytes.
 fn sheet_line(out: &mut [u8], number: u64, bytes: &[u8], state: State) -> Step
-    requires { ⌜ (length (now out) ≡ 80) × (length (now bytes) ≡ 364) ⌝ }
+    requires { ⌜ (length (now out) ≡ lineRoom) × (length (now bytes) ≡ 364) ⌝ }
     ensures line { λ r. ⌜ take (r .count) (now (out .exit)) ≡ answerLine number (sheetCall (now (bytes .entry)) state) ⌝ }
     ensures within { λ r. ⌜ Within (r .count) (now (out .exit)) ⌝ }
     ensures next { λ r. ⌜ r .next ≡ sheetCall (now (bytes .entry)) state .answer .next ⌝ }
@@ -62,7 +63,7 @@ fn turn(state: State, number: u64) -> After {
     if n == 0 {
         return ended(state);
     }
-    let mut line = [0u8; 80];
+    let mut line = [0u8; LINE_ROOM];
     if n < 364 {
         let count = lines::cut_line(&mut line, number);
         io::write_all(STDOUT_FILENO, &line[..count]);
@@ -102,7 +103,7 @@ fn main() {
         run(state);
         return;
     }
-    let mut line = [0u8; 80];
+    let mut line = [0u8; LINE_ROOM];
     let count = lines::state_line(&mut line, outcome.number());
     io::write_all(STDOUT_FILENO, &line[..count]);
 }

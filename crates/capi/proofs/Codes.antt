@@ -9,7 +9,8 @@ use Rattle.outcome.specs.Outcome.{placeOf, isAccepted}
 use Rattle.outcome.specs.Checks.{firstMet}
 use Rattle.outcome.proofs.Checks.{placed-append, none-placed, place-low}
 use Rattle.state.specs.declared.State.{State}
-use Rattle.state.specs.State.{stateChecks, stateOf}
+use Rattle.state.specs.State.{stateChecks}
+use Rattle.state.specs.Layout.{stateOf}
 use Rattle.state.proofs.Checks.{state-placed}
 use Rattle.record.specs.Record.{numbersIn, byteChecks, recordChecks, recordOutcome, readCall, roomChecks, writeChecks, writeCall}
 use Rattle.record.proofs.Reader.{outcome-is}

@@ -10,25 +10,26 @@ use borrow.Author.Tests.{eqb-true}
 use Rattle.outcome.specs.declared.Outcome.{Outcome}
 use Rattle.outcome.specs.Outcome.{isAccepted}
 use Rattle.outcome.proofs.Variants.{accepted-number, accepted-place}
+use Rattle.state.specs.Layout.{stateCount}
 use Rattle.state.proofs.Numbers.{numbers-of-state}
 use Rattle.coding.specs.Bytes.{words, bytesOf, Bytes}
 use Rattle.coding.proofs.Bytes.{bytes-back}
 use Rattle.coding.proofs.Laid.{bytes-length}
 use Rattle.mr74.specs.Checks.{frameOutcome}
 use Rattle.mr74.specs.Frame.{refusedTrace, frameTrace, given, Called, frameCall}
-use Rattle.capi.specs.Capi.{codeOf, stateIn, stateBytes, sheetIn, roomIn, outAfter, rowBytes, flagBytes, FrameLeft, frameLeft, frameBytes, Kept}
+use Rattle.capi.specs.Capi.{stateLength, rowsLength, flagsLength, codeOf, stateIn, stateBytes, sheetIn, roomIn, outAfter, rowBytes, flagBytes, FrameLeft, frameLeft, frameBytes, Kept}
 use Rattle.capi.proofs.Codes.{frame-outcome}
 
 -- what is accepted has the code 0
 accepted-code : (o : Outcome) → isAccepted o ≡ true → codeOf o ≡ 0
 accepted-code o e = omega (arith, accepted-number o e, accepted-place o e)
 
--- the bytes of the state of 394 bytes are those bytes
-same-bytes : (state : List ℕ) → length state ≡ 394 → Bytes state → stateBytes (stateIn state) ≡ state
+-- the bytes of the state of bytes are those bytes
+same-bytes : (state : List ℕ) → length state ≡ stateLength → Bytes state → stateBytes (stateIn state) ≡ state
 same-bytes state l b =
-    let back = bytes-back 197 state l b in
+    let back = bytes-back stateCount state l b in
     let e = ap length back in
-    let k : length (words state) ≡ 197 = omega (arith, e, bytes-length (words state), l) in
+    let k : length (words state) ≡ stateCount = omega (arith, e, bytes-length (words state), l) in
     ap bytesOf (numbers-of-state (words state) k) ∙ back
 
 both : (s t : Bool) → s && t ≡ true → s ≡ true
@@ -49,13 +50,13 @@ module _ (sheet state out rows flags : List ℕ) (bytes : Bytes state) where
   unfolding frameCall frameTrace
   refused e = rw e
 
-  called-so : length state ≡ 394 → (b : Bool) → isAccepted o ≡ b → Same (leftBy (frameCall (sheetIn sheet) (stateIn state) (roomIn out)))
+  called-so : length state ≡ stateLength → (b : Bool) → isAccepted o ≡ b → Same (leftBy (frameCall (sheetIn sheet) (stateIn state) (roomIn out)))
   called-so l true e = λ n. absurd (n (ap codeOf (frame-outcome (sheetIn sheet) (stateIn state) (roomIn out)) ∙ accepted-code o e))
   called-so l false e = rw (refused e, e) (λ n. (same-bytes state l bytes, refl))
 
-  fits : (b : Bool) → eqb (length state) 394 && (eqb (length rows) 88 && eqb (length flags) 4) ≡ b → Same (frameBytes sheet state out rows flags)
+  fits : (b : Bool) → eqb (length state) stateLength && (eqb (length rows) rowsLength && eqb (length flags) flagsLength) ≡ b → Same (frameBytes sheet state out rows flags)
   unfolding frameBytes
-  fits true e = rw e (called-so (eqb-true (length state) 394 (both (eqb (length state) 394) _ e)) (isAccepted o) refl)
+  fits true e = rw e (called-so (eqb-true (length state) stateLength (both (eqb (length state) stateLength) _ e)) (isAccepted o) refl)
   fits false e = rw e (λ n. (refl, refl))
 
 pub kept : Kept

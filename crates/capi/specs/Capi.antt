@@ -1,20 +1,49 @@
--- The frame call, the reader and the writer over bytes. Numbers of 16 bits are two bytes, low byte first. A state is the 394 bytes of a record's body.
+-- The frame call, the reader and the writer over bytes. Numbers of 16 bits are two bytes, low byte first. A state is the bytes of a record's body.
 use mathlib.Core.Path.{_≡_}
 use mathlib.Core.Bool.{Bool, cond, _&&_}
-use mathlib.Core.List.{List, [], map, _++_}
+use mathlib.Core.List.{List, [], _∷_, map}
 use Prim.Native.Nat.{ℕ, _+_, _*_}
 use lib.Dec.{eqb}
 use lib.IntN.{ℤ, pos}
 use lib.ListN.{length, replicate}
+use Rattle.lists.specs.Parts.{joined}
 use Rattle.lpc.specs.declared.Rows.{Rows}
 use Rattle.state.specs.declared.State.{State}
 use Rattle.outcome.specs.declared.Outcome.{Outcome}
 use Rattle.outcome.specs.Outcome.{numberOf, placeOf, isAccepted}
-use Rattle.state.specs.State.{stateOf, numbersOf}
+use Rattle.state.specs.Layout.{numbersOf, stateOf}
 use Rattle.coding.specs.Bytes.{words, bytesOf, Bytes}
+use Rattle.coding.specs.Body.{bodyLength}
 use Rattle.record.specs.Record.{readCall, writeCall}
 use Rattle.mr74.specs.Frame.{Called, frameCall}
 
+-- ---- how long the buffers are, in bytes: two for each number, one for each flag
+abbrev pub sheetCount : ℕ
+sheetCount = 182
+
+abbrev pub sampleCount : ℕ
+sampleCount = 160
+
+-- 364
+abbrev pub sheetLength : ℕ
+sheetLength = 2 * sheetCount
+
+-- 320
+abbrev pub outLength : ℕ
+outLength = 2 * sampleCount
+
+-- 394
+abbrev pub stateLength : ℕ
+stateLength = bodyLength
+
+-- 88
+abbrev pub rowsLength : ℕ
+rowsLength = 2 * (4 * 11)
+
+abbrev pub flagsLength : ℕ
+flagsLength = 4
+
+-- ---- numbers and states
 -- returned where a lent state, rows or flags has another length than its own: no number of the paper's. Nothing lent is changed then
 abbrev pub unfit : ℕ
 unfit = 255
@@ -30,13 +59,13 @@ abbrev pub stateBytes : State → List ℕ
 stateBytes s = bytesOf (numbersOf s)
 
 -- ---- the frame call
--- the sheet's numbers: none where it has not 364 bytes, which the frame call refuses
+-- the sheet's numbers: none where it has another length, which the frame call refuses
 abbrev pub sheetIn : List ℕ → List ℤ
-sheetIn sheet = cond (eqb (length sheet) 364) (words sheet) []
+sheetIn sheet = cond (eqb (length sheet) sheetLength) (words sheet) []
 
--- the room for samples in a lent output: none where it has not 320 bytes, which the frame call refuses
+-- the room for samples in a lent output: none where it has another length, which the frame call refuses
 abbrev pub roomOf : ℕ → ℕ
-roomOf bytes = cond (eqb bytes 320) 160 0
+roomOf bytes = cond (eqb bytes outLength) sampleCount 0
 
 abbrev pub roomIn : List ℕ → List ℤ
 roomIn out = replicate (roomOf (length out)) (pos 0)
@@ -47,7 +76,7 @@ outAfter c out = cond (isAccepted (c .answer .outcome)) (bytesOf (c .lent)) out
 
 -- the four rows one after another
 abbrev pub rowBytes : Rows → List ℕ
-rowBytes r = bytesOf (r .a ++ (r .b ++ (r .c ++ r .d)))
+rowBytes r = bytesOf (joined (r .a ∷ r .b ∷ r .c ∷ r .d ∷ []))
 
 -- a byte for each flag
 abbrev pub flagBytes : List Bool → List ℕ
@@ -68,7 +97,7 @@ unfoldable pub frameBytes : List ℕ → List ℕ → List ℕ → List ℕ → 
 frameBytes sheet state out rows flags =
     let c = frameCall (sheetIn sheet) (stateIn state) (roomIn out) in
     let a = c .answer in
-    cond (eqb (length state) 394 && (eqb (length rows) 88 && eqb (length flags) 4))
+    cond (eqb (length state) stateLength && (eqb (length rows) rowsLength && eqb (length flags) flagsLength))
     (frameLeft (codeOf (a .outcome)) (stateBytes (a .next)) (outAfter c out) (rowBytes (a .rows)) (flagBytes (a .flags)))
     (frameLeft unfit state out rows flags)
 
@@ -85,7 +114,7 @@ readLeft code state note = record { code = code; state = state; note = note }
 unfoldable pub readBytes : List ℕ → List ℕ → ℕ → ReadLeft
 readBytes bytes state note =
     let t = readCall bytes in
-    cond (eqb (length state) 394) (readLeft (codeOf (t .answer .outcome)) (stateBytes (t .answer .state)) (length (t .note))) (readLeft unfit state note)
+    cond (eqb (length state) stateLength) (readLeft (codeOf (t .answer .outcome)) (stateBytes (t .answer .state)) (length (t .note))) (readLeft unfit state note)
 
 -- ---- the writer
 -- the returned number, and the lent record
@@ -99,7 +128,7 @@ writeLeft code lent = record { code = code; lent = lent }
 unfoldable pub writeBytes : List ℕ → List ℕ → WriteLeft
 writeBytes state lent =
     let w = writeCall (stateIn state) lent in
-    cond (eqb (length state) 394) (writeLeft (codeOf (w .outcome)) (w .lent)) (writeLeft unfit lent)
+    cond (eqb (length state) stateLength) (writeLeft (codeOf (w .outcome)) (w .lent)) (writeLeft unfit lent)
 
 -- ---- what a caller may rely on; the theorem is `kept` in proofs/Kept.antt
 -- a frame call that returns another number than 0 leaves the lent state and output as they were

@@ -1,18 +1,34 @@
 // The frame call, the reader and the writer over bytes, exported for C and Rust (c/mr74.h).
 ghost use mathlib.Core.Path.{_≡_};
-ghost use Prim.Native.Nat.{_≤_, _<_};
+ghost use Prim.Native.Nat.{_*_, _≤_, _<_};
 ghost use lib.ListN.{length, take};
 ghost use Rattle.outcome.specs.Outcome.{placeOf};
 ghost use Rattle.mr74.specs.Frame.{called, frameCall};
-ghost use Rattle.capi.specs.Capi.{codeOf, sheetIn, roomOf, roomIn, outAfter, rowBytes, flagBytes, stateBytes, frameLeft, frameBytes, readLeft, readBytes, writeLeft, writeBytes};
+ghost use Rattle.coding.specs.Bytes.{bytesOf};
+ghost use Rattle.capi.specs.Capi.{sheetCount, stateLength, rowsLength, flagsLength, codeOf, sheetIn, roomOf, roomIn, outAfter, rowBytes, flagBytes, stateBytes, frameLeft, frameBytes, readLeft, readBytes, writeLeft, writeBytes};
 use lpc::Rows;
 use mr74::FrameAnswer;
 use outcome::Outcome;
 use state::State;
 
-const STATE_BYTES: usize = 394;
+// How long the buffers are: two bytes for each number, one for each flag.
+const SHEET: usize = 182;
 
-const ROWS_BYTES: usize = 88;
+const SHEET_BYTES: usize = 2 * SHEET;
+
+const SAMPLES: usize = 160;
+
+const OUT_BYTES: usize = 2 * SAMPLES;
+
+const STATE_BYTES: usize = coding::BODY_BYTES;
+
+const ROW_BYTES: usize = 2 * 11;
+
+const TWO_ROWS: usize = 2 * ROW_BYTES;
+
+const THREE_ROWS: usize = 3 * ROW_BYTES;
+
+const ROWS_BYTES: usize = 4 * ROW_BYTES;
 
 const FLAGS_BYTES: usize = 4;
 
@@ -30,30 +46,30 @@ fn code(outcome: Outcome) -> u32
 }
 
 // ---- the frame call
-// The sheet's numbers, as many as are returned: all, or none where it has not 364 bytes.
+// The sheet's numbers, as many as are returned: all, or none where it has another length.
 fn sheet_in(sheet: &[u8], numbers: &mut [i16]) -> usize
-    requires { ⌜ length (now numbers) ≡ 182 ⌝ }
-    ensures { λ r. ⌜ (r ≤ 182) × (take r (now (numbers .exit)) ≡ sheetIn (now (sheet .entry))) ⌝ }
+    requires { ⌜ length (now numbers) ≡ sheetCount ⌝ }
+    ensures { λ r. ⌜ (r ≤ sheetCount) × (take r (now (numbers .exit)) ≡ sheetIn (now (sheet .entry))) ⌝ }
 {
-    if sheet.len() != 364 {
+    if sheet.len() != SHEET_BYTES {
         return 0;
     }
     coding::fill(numbers, sheet);
-    182
+    SHEET
 }
 
 // The samples that so many bytes have room for: all, or none.
 fn room(bytes: usize) -> usize
     ensures { λ r. ⌜ r ≡ roomOf bytes ⌝ }
 {
-    if bytes == 320 { 160 } else { 0 }
+    if bytes == OUT_BYTES { SAMPLES } else { 0 }
 }
 
 // The call of a sheet's bytes.
 fn frame_in(sheet: &[u8], state: State, samples: &mut [i16]) -> FrameAnswer
     ensures { λ r. ⌜ called r (now (samples .exit)) ≡ frameCall (sheetIn (now (sheet .entry))) state (now (samples .entry)) ⌝ }
 {
-    let mut numbers = [0i16; 182];
+    let mut numbers = [0i16; SHEET];
     let n = sheet_in(sheet, &mut numbers);
     mr74::frame(&numbers[0..n], state, samples)
 }
@@ -63,7 +79,7 @@ fn frame_out(sheet: &[u8], state: State, out: &mut [u8]) -> FrameAnswer
     ensures { λ r. ⌜ r ≡ frameCall (sheetIn (now (sheet .entry))) state (roomIn (now (out .entry))) .answer ⌝ }
     ensures { λ _. ⌜ now (out .exit) ≡ outAfter (frameCall (sheetIn (now (sheet .entry))) state (roomIn (now (out .entry)))) (now (out .entry)) ⌝ }
 {
-    let mut samples = [0i16; 160];
+    let mut samples = [0i16; SAMPLES];
     let n = room(out.len());
     let answer = frame_in(sheet, state, &mut samples[0..n]);
     let outcome = answer.outcome;
@@ -74,35 +90,41 @@ fn frame_out(sheet: &[u8], state: State, out: &mut [u8]) -> FrameAnswer
     answer
 }
 
+fn write_row(row: [i16; 11], out: &mut [u8])
+    requires { ⌜ length (now out) ≡ 2 * 11 ⌝ }
+    ensures { λ _. ⌜ now (out .exit) ≡ bytesOf row ⌝ }
+{
+    coding::put(out, &row);
+}
+
 // The four rows one after another.
 fn write_rows(rows: Rows, out: &mut [u8])
-    requires { ⌜ length (now out) ≡ 88 ⌝ }
+    requires { ⌜ length (now out) ≡ rowsLength ⌝ }
     ensures { λ _. ⌜ now (out .exit) ≡ rowBytes rows ⌝ }
 {
     let a = rows.a;
-    coding::put(&mut out[0..22], &a);
+    write_row(a, &mut out[0..ROW_BYTES]);
     let b = rows.b;
-    coding::put(&mut out[22..44], &b);
+    write_row(b, &mut out[ROW_BYTES..TWO_ROWS]);
     let c = rows.c;
-    coding::put(&mut out[44..66], &c);
+    write_row(c, &mut out[TWO_ROWS..THREE_ROWS]);
     let d = rows.d;
-    coding::put(&mut out[66..88], &d);
+    write_row(d, &mut out[THREE_ROWS..ROWS_BYTES]);
 }
 
 // A byte for each flag.
 fn write_flags(flags: [bool; 4], out: &mut [u8])
-    requires { ⌜ length (now out) ≡ 4 ⌝ }
+    requires { ⌜ length (now out) ≡ flagsLength ⌝ }
     ensures { λ _. ⌜ now (out .exit) ≡ flagBytes flags ⌝ }
 {
-    out[0] = flags[0] as u8;
-    out[1] = flags[1] as u8;
-    out[2] = flags[2] as u8;
-    out[3] = flags[3] as u8;
+    for i in 0..FLAGS_BYTES {
+        out[i] = flags[i] as u8;
+    }
 }
 
 // What an answer leaves in what was lent beside the output.
 fn give(answer: FrameAnswer, state: &mut [u8], rows: &mut [u8], flags: &mut [u8]) -> u32
-    requires { ⌜ (length (now state) ≡ 394) × ((length (now rows) ≡ 88) × (length (now flags) ≡ 4)) ⌝ }
+    requires { ⌜ (length (now state) ≡ stateLength) × ((length (now rows) ≡ rowsLength) × (length (now flags) ≡ flagsLength)) ⌝ }
     requires { ⌜ placeOf (answer .outcome) < 256 ⌝ }
     ensures { λ r. ⌜ r ≡ codeOf (answer .outcome) ⌝ }
     ensures { λ _. ⌜ now (state .exit) ≡ stateBytes (answer .next) ⌝ }

@@ -100,6 +100,10 @@ pub put-done : (dst : List ℕ) (src : List ℤ) (i j : ℕ) → length src ≤ 
 unfolding bytesOf
 put-done dst src i j hi hj inv = sym (ap (λ (l : List ℤ). take j dst ++ bytesOf l) (drop-of-length-le src hi) ∙ whole-then-nothing dst j hj) ∙ inv
 
+-- a number that went through a local
+pub one-put : {y : List ℕ} (z : ℤ) → mag z < 2 ^ 15 → y ≡ bytesOf (toZ w16 (ofZ w16 z) ∷ []) → y ≡ bytesOf (z ∷ [])
+one-put z h e = e ∙ ap (λ (x : ℤ). bytesOf (x ∷ [])) (back w16 h)
+
 -- ---- there and back
 pub number-back : (x : ℤ) → mag x < 2 ^ 15 → signed16 (unsigned (bits16 x % 256) (bits16 x / 256)) ≡ x
 number-back (pos n) h = let e : n % 256 + 256 * (n / 256) ≡ n = omega arith in ap signed16 e ∙ rw (lt-ltb n 32768 h)

@@ -1,14 +1,14 @@
--- The bytes of numbers, laid part by part: those of a body. Assumes nothing.
-use mathlib.Core.Path.{_≡_, refl, ap, ap₂, sym, _∙_}
-use mathlib.Core.List.{List, [], _∷_, _++_, append-assoc}
+-- The bytes of numbers, laid part by part. Assumes nothing.
+use mathlib.Core.Path.{_≡_, refl, ap, sym, _∙_}
+use mathlib.Core.List.{List, [], _∷_, _++_, map, append-assoc, append-nil}
 use Prim.Native.Nat.{ℕ, _+_, _-_, _*_, _≤_}
 use native.Mathlib.Omega.{arith}
 use lib.IntN.{ℤ}
 use lib.ListN.{length, take, drop, length-drop, length-append}
 use lib.Seq.{take-all, take-at}
 use borrow.Rule.Slice.PartMut.{putMid}
-use Rattle.state.specs.declared.State.{State}
-use Rattle.state.specs.State.{numbersOf}
+use Rattle.lists.specs.Parts.{joined, total}
+use Rattle.lists.proofs.Parts.{Counted}
 use Rattle.coding.specs.Bytes.{bytesOf}
 
 -- ---- the bytes of numbers
@@ -46,63 +46,25 @@ laid-more {n} {done} {out} k m last ys l hd hy h is =
 pub laid-done : {n : ℕ} {done out : List ℕ} → Laid n done out → length done ≡ n → out ≡ done
 laid-done {n} {done} {out} l h = sym (take-all (length done) out (omega (arith, h, l .room))) ∙ l .front
 
--- ---- the parts of a body
-module _ (out : List ℕ) (lsp past history : List ℤ) (x : ℤ) (y₁ y₂ y₃ y₄ : List ℕ) where
-  pub core-written : length out ≡ 350 → length lsp ≡ 10 → length past ≡ 154 → length history ≡ 10
-      → y₁ ≡ bytesOf lsp → y₂ ≡ bytesOf past → y₃ ≡ bytesOf (x ∷ []) → y₄ ≡ bytesOf history
-      → putMid 330 20 (putMid 328 2 (putMid 20 308 (putMid 0 20 out y₁) y₂) y₃) y₄ ≡ bytesOf (lsp ++ (past ++ (x ∷ history)))
-  core-written h h₁ h₂ h₄ e₁ e₂ e₃ e₄ =
-      let b₁ = bytesOf lsp in
-      let b₂ = bytesOf past in
-      let b₃ = bytesOf (x ∷ []) in
-      let b₄ = bytesOf history in
-      let l₁ : length b₁ ≡ 20 = omega (arith, bytes-length lsp, h₁) in
-      let l₂ : length b₂ ≡ 308 = omega (arith, bytes-length past, h₂) in
-      let l₃ : length b₃ ≡ 2 = bytes-length (x ∷ []) in
-      let l₄ : length b₄ ≡ 20 = omega (arith, bytes-length history, h₄) in
-      let k₂ : length (b₁ ++ b₂) ≡ 328 = omega (arith, length-append b₁ b₂, l₁, l₂) in
-      let k₃ : length ((b₁ ++ b₂) ++ b₃) ≡ 330 = omega (arith, length-append (b₁ ++ b₂) b₃, k₂, l₃) in
-      let k₄ : length (((b₁ ++ b₂) ++ b₃) ++ b₄) ≡ 350 = omega (arith, length-append ((b₁ ++ b₂) ++ b₃) b₄, k₃, l₄) in
-      let s₁ = laid-more 0 20 y₁ b₁ (laid-none 350 out h) refl l₁ (omega arith) e₁ in
-      let s₂ = laid-more 20 308 y₂ b₂ s₁ l₁ l₂ (omega arith) e₂ in
-      let s₃ = laid-more 328 2 y₃ b₃ s₂ k₂ l₃ (omega arith) e₃ in
-      let s₄ = laid-more 330 20 y₄ b₄ s₃ k₃ l₄ (omega arith) e₄ in
-      laid-done s₄ k₄ ∙ append-assoc (b₁ ++ b₂) b₃ b₄ ∙ append-assoc b₁ b₂ (b₃ ++ b₄)
-      ∙ sym (bytes-append lsp (past ++ (x ∷ history)) ∙ ap (λ (l : List ℕ). b₁ ++ l) (bytes-append past (x ∷ history) ∙ ap (λ (l : List ℕ). b₂ ++ l) (bytes-append (x ∷ []) history)))
+-- ---- parts laid one after another, from place k on
+abbrev pub lay : ℕ → List ℕ → List (List ℕ) → List ℕ → List ℕ
+lay k [] ys out = out
+lay k (n ∷ ns) [] out = out
+lay k (n ∷ ns) (y ∷ ys) out = lay (k + n) ns ys (putMid k n out y)
 
-module _ (out : List ℕ) (input synthesis : List ℤ) (x y : ℤ) (y₁ y₂ y₃ : List ℕ) where
-  pub post-written : length out ≡ 44 → length input ≡ 10 → length synthesis ≡ 10 → y₁ ≡ bytesOf input → y₂ ≡ bytesOf synthesis → y₃ ≡ bytesOf (x ∷ y ∷ [])
-      → putMid 40 4 (putMid 20 20 (putMid 0 20 out y₁) y₂) y₃ ≡ bytesOf (input ++ (synthesis ++ (x ∷ y ∷ [])))
-  post-written h h₁ h₂ e₁ e₂ e₃ =
-      let b₁ = bytesOf input in
-      let b₂ = bytesOf synthesis in
-      let b₃ = bytesOf (x ∷ y ∷ []) in
-      let l₁ : length b₁ ≡ 20 = omega (arith, bytes-length input, h₁) in
-      let l₂ : length b₂ ≡ 20 = omega (arith, bytes-length synthesis, h₂) in
-      let l₃ : length b₃ ≡ 4 = bytes-length (x ∷ y ∷ []) in
-      let k₂ : length (b₁ ++ b₂) ≡ 40 = omega (arith, length-append b₁ b₂, l₁, l₂) in
-      let k₃ : length ((b₁ ++ b₂) ++ b₃) ≡ 44 = omega (arith, length-append (b₁ ++ b₂) b₃, k₂, l₃) in
-      let s₁ = laid-more 0 20 y₁ b₁ (laid-none 44 out h) refl l₁ (omega arith) e₁ in
-      let s₂ = laid-more 20 20 y₂ b₂ s₁ l₁ l₂ (omega arith) e₂ in
-      let s₃ = laid-more 40 4 y₃ b₃ s₂ k₂ l₃ (omega arith) e₃ in
-      laid-done s₃ k₃ ∙ append-assoc b₁ b₂ b₃
-      ∙ sym (bytes-append input (synthesis ++ (x ∷ y ∷ [])) ∙ ap (λ (l : List ℕ). b₁ ++ l) (bytes-append synthesis (x ∷ y ∷ [])))
+lay-more : {m : ℕ} {done out : List ℕ} (k : ℕ) (ns : List ℕ) (ys : List (List ℕ)) → Laid m done out → length done ≡ k → Counted ns ys → k + total ns ≡ m → lay k ns ys out ≡ done ++ joined ys
+lay-more {done = done} k [] [] l e c h = laid-done l (omega (arith, e, h)) ∙ sym (append-nil done)
+lay-more k [] (y ∷ ys) l e c h = absurd c
+lay-more k (n ∷ ns) [] l e c h = absurd c
+lay-more {done = done} k (n ∷ ns) (y ∷ ys) l e c h =
+    lay-more (k + n) ns ys (laid-more k n y y l e (c .0) (omega (arith, h)) refl) (length-append done y ∙ omega (arith, e, c .0)) (c .1) (omega (arith, h))
+    ∙ append-assoc done y (joined ys)
 
-module _ (s : State) (out y₁ y₂ : List ℕ) where
-  abbrev c : List ℤ
-  c = s .core .lsp ++ (s .core .past ++ (s .core .sharpening .0 ∷ s .core .history))
+bytes-joined : (xs : List (List ℤ)) → bytesOf (joined xs) ≡ joined (map bytesOf xs)
+unfolding bytesOf
+bytes-joined [] = refl
+bytes-joined (x ∷ xs) = bytes-append x (joined xs) ∙ ap (λ (l : List ℕ). bytesOf x ++ l) (bytes-joined xs)
 
-  abbrev p : List ℤ
-  p = s .post .«input_history» ++ (s .post .«synthesis_history» ++ (s .post .«previous_residual» ∷ s .post .gain .«previous_gain» ∷ []))
-
-  numbers-are : c ++ p ≡ numbersOf s
-  unfolding numbersOf
-  numbers-are =
-      append-assoc (s .core .lsp) (s .core .past ++ (s .core .sharpening .0 ∷ s .core .history)) p
-      ∙ ap (λ (l : List ℤ). s .core .lsp ++ l) (append-assoc (s .core .past) (s .core .sharpening .0 ∷ s .core .history) p)
-
-  pub body-written : length out ≡ 394 → length y₁ ≡ 350 → length y₂ ≡ 44 → y₁ ≡ bytesOf c → y₂ ≡ bytesOf p → putMid 350 44 (putMid 0 350 out y₁) y₂ ≡ bytesOf (numbersOf s)
-  body-written h l₁ l₂ e₁ e₂ =
-      let s₁ = laid-more 0 350 y₁ y₁ (laid-none 394 out h) refl l₁ (omega arith) refl in
-      let s₂ = laid-more 350 44 y₂ y₂ s₁ l₁ l₂ (omega arith) refl in
-      laid-done s₂ (omega (arith, length-append y₁ y₂, l₁, l₂)) ∙ ap₂ _++_ e₁ e₂ ∙ sym (bytes-append c p) ∙ ap bytesOf numbers-are
+-- the bytes of each part, laid from the front, are those of all
+pub laid-parts : (ns : List ℕ) (xs : List (List ℤ)) (ys : List (List ℕ)) (out : List ℕ) → length out ≡ total ns → Counted ns ys → ys ≡ map bytesOf xs → lay 0 ns ys out ≡ bytesOf (joined xs)
+laid-parts ns xs ys out h c e = lay-more 0 ns ys (laid-none (total ns) out h) refl c (omega arith) ∙ ap joined e ∙ sym (bytes-joined xs)

@@ -1,12 +1,18 @@
 -- A part of bytes is a part of their numbers. Assumes nothing.
 use mathlib.Core.Path.{_≡_, refl, ap, ap₂, _∙_}
-use mathlib.Core.List.{List, [], _∷_}
+use mathlib.Core.List.{List, [], _∷_, map}
 use Prim.Native.Nat.{ℕ, zero, suc, _+_, _*_, _<_}
 use native.Mathlib.Omega.{arith}
 use lib.IntN.{ℤ}
 use lib.ListN.{length, take, drop, getD}
 use Rattle.lists.specs.Lists.{at}
+use Rattle.lists.specs.Parts.{cut}
+use Rattle.lists.proofs.Parts.{stretches, stretches-cut}
 use Rattle.coding.specs.Bytes.{signed16, unsigned, words}
+
+-- two bytes for each number
+abbrev pub doubled : List ℕ → List ℕ
+doubled ns = map (λ (n : ℕ). 2 * n) ns
 
 twice : (n : ℕ) → 2 * suc n ≡ suc (suc (2 * n))
 twice n = omega arith
@@ -25,8 +31,13 @@ words-take (suc n) [] = ap (λ (k : ℕ). words (take k [])) (twice n)
 words-take (suc n) (x ∷ []) = ap (λ (k : ℕ). words (take k (x ∷ []))) (twice n)
 words-take (suc n) (x ∷ y ∷ b) = ap (λ (k : ℕ). words (take k (x ∷ y ∷ b))) (twice n) ∙ ap (λ (l : List ℤ). signed16 (unsigned x y) ∷ l) (words-take n b)
 
-pub words-part : (b : List ℕ) (m n : ℕ) → words (take (2 * n) (drop (2 * m) b)) ≡ take n (drop m (words b))
-words-part b m n = words-take n (drop (2 * m) b) ∙ ap (take n) (words-drop m b)
+-- the numbers of the parts of bytes are the parts of their numbers
+pub words-cut : (ns : List ℕ) (b : List ℕ) → map words (stretches 0 (doubled ns) b) ≡ cut ns (words b)
+words-cut ns b = ap (map words) (stretches-cut 0 (doubled ns) b) ∙ go ns b
+  where
+    go : (ns : List ℕ) (b : List ℕ) → map words (cut (doubled ns) b) ≡ cut ns (words b)
+    go [] b = refl
+    go (n ∷ ns) b = rw (words-take n b, ← words-drop n b, go ns (drop (2 * n) b))
 
 pub at-words : (b : List ℕ) (k : ℕ) → 2 * k + 1 < length b → signed16 (unsigned (getD b (2 * k) 0) (getD b (2 * k + 1) 0)) ≡ at (words b) k
 unfolding words

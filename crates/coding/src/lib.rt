@@ -1,15 +1,20 @@
-// Numbers of 16 bits as bytes, and the body of a record: a state's 197 numbers as 394 bytes.
+// Numbers of 16 bits as bytes, and the body of a record: a state's numbers as bytes, part by part.
 // Not public in document 01's sense: the record's calls, the exported ones and the programs call it, and meet its `requires`.
 ghost use mathlib.Core.Path.{_≡_};
-ghost use mathlib.Core.List.{[], _∷_, _++_};
 ghost use Prim.Native.Nat.{_*_};
 ghost use lib.ListN.{length};
-ghost use Rattle.state.specs.State.{stateOf, numbersOf};
+ghost use Rattle.state.specs.Layout.{past, coreOf, coreNumbers, postOf, postNumbers, stateOf, numbersOf};
 ghost use Rattle.coding.specs.Bytes.{signed16, bits16, unsigned, words, bytesOf};
+ghost use Rattle.coding.specs.Body.{coreLength, postLength, bodyLength};
 use basicop::Q14;
 use decoder::Core;
 use energy::GainControl;
 use postfilter::Postfilter;
+use state::CORE_NUMBERS;
+use state::HISTORY;
+use state::LSP;
+use state::PAST;
+use state::POST_NUMBERS;
 use state::State;
 
 // ---- numbers of 16 bits as bytes, low byte first
@@ -74,93 +79,161 @@ pub fn put(dst: &mut [u8], src: &[i16])
     }
 }
 
-// ---- the body
-// The body's numbers 0 to 174.
-fn core_in(body: &[u8]) -> Core
-    requires { ⌜ length (now body) ≡ 394 ⌝ }
-    ensures { λ r. ⌜ r ≡ stateOf (words (now (body .entry))) .core ⌝ }
+// ---- parts of a body, each an array
+fn ten_in(bytes: &[u8]) -> [i16; 10]
+    requires { ⌜ length (now bytes) ≡ 2 * 10 ⌝ }
+    ensures { λ r. ⌜ r ≡ words (now (bytes .entry)) ⌝ }
 {
-    let mut lsp = [0i16; 10];
-    fill(&mut lsp, &body[0..20]);
-    let mut past = [0i16; 154];
-    fill(&mut past, &body[20..328]);
-    let sharpening = word(body[328], body[329]);
-    let mut history = [0i16; 10];
-    fill(&mut history, &body[330..350]);
+    let mut numbers = [0i16; 10];
+    fill(&mut numbers, bytes);
+    numbers
+}
+
+fn past_in(bytes: &[u8]) -> [i16; PAST]
+    requires { ⌜ length (now bytes) ≡ 2 * past .count ⌝ }
+    ensures { λ r. ⌜ r ≡ words (now (bytes .entry)) ⌝ }
+{
+    let mut numbers = [0i16; PAST];
+    fill(&mut numbers, bytes);
+    numbers
+}
+
+fn one_in(bytes: &[u8]) -> [i16; 1]
+    requires { ⌜ length (now bytes) ≡ 2 ⌝ }
+    ensures { λ r. ⌜ r ≡ words (now (bytes .entry)) ⌝ }
+{
+    let mut numbers = [0i16; 1];
+    fill(&mut numbers, bytes);
+    numbers
+}
+
+fn write_ten(numbers: [i16; 10], out: &mut [u8])
+    requires { ⌜ length (now out) ≡ 2 * 10 ⌝ }
+    ensures { λ _. ⌜ now (out .exit) ≡ bytesOf numbers ⌝ }
+{
+    put(out, &numbers);
+}
+
+fn write_past(numbers: [i16; PAST], out: &mut [u8])
+    requires { ⌜ length (now out) ≡ 2 * past .count ⌝ }
+    ensures { λ _. ⌜ now (out .exit) ≡ bytesOf numbers ⌝ }
+{
+    put(out, &numbers);
+}
+
+fn write_one(numbers: [i16; 1], out: &mut [u8])
+    requires { ⌜ length (now out) ≡ 2 ⌝ }
+    ensures { λ _. ⌜ now (out .exit) ≡ bytesOf numbers ⌝ }
+{
+    put(out, &numbers);
+}
+
+// ---- the core: where each part ends, in bytes
+const LSP_END: usize = 2 * LSP;
+
+const PAST_END: usize = LSP_END + 2 * PAST;
+
+const SHARPENING_END: usize = PAST_END + 2;
+
+pub const CORE_BYTES: usize = 2 * CORE_NUMBERS;
+
+// The core of its bytes.
+fn core_in(bytes: &[u8]) -> Core
+    requires { ⌜ length (now bytes) ≡ coreLength ⌝ }
+    ensures { λ r. ⌜ r ≡ coreOf (words (now (bytes .entry))) ⌝ }
+{
+    let lsp = ten_in(&bytes[0..LSP_END]);
+    let past = past_in(&bytes[LSP_END..PAST_END]);
+    let sharpening = one_in(&bytes[PAST_END..SHARPENING_END]);
+    let history = ten_in(&bytes[SHARPENING_END..CORE_BYTES]);
     Core {
         lsp,
         past,
-        sharpening: Q14(sharpening),
+        sharpening: Q14(sharpening[0]),
         history,
     }
 }
 
-// The body's numbers 175 to 196.
-fn post_in(body: &[u8]) -> Postfilter
-    requires { ⌜ length (now body) ≡ 394 ⌝ }
-    ensures { λ r. ⌜ r ≡ stateOf (words (now (body .entry))) .post ⌝ }
+// The bytes of a core.
+fn write_core(core: Core, out: &mut [u8])
+    requires { ⌜ length (now out) ≡ coreLength ⌝ }
+    ensures { λ _. ⌜ now (out .exit) ≡ bytesOf (coreNumbers core) ⌝ }
 {
-    let mut input_history = [0i16; 10];
-    fill(&mut input_history, &body[350..370]);
-    let mut synthesis_history = [0i16; 10];
-    fill(&mut synthesis_history, &body[370..390]);
-    let previous_residual = word(body[390], body[391]);
-    let previous_gain = word(body[392], body[393]);
+    let lsp = core.lsp;
+    write_ten(lsp, &mut out[0..LSP_END]);
+    let past = core.past;
+    write_past(past, &mut out[LSP_END..PAST_END]);
+    let sharpening = core.sharpening;
+    let one = [sharpening.0];
+    write_one(one, &mut out[PAST_END..SHARPENING_END]);
+    let history = core.history;
+    write_ten(history, &mut out[SHARPENING_END..CORE_BYTES]);
+}
+
+// ---- the postfilter: where each part ends, in bytes
+const INPUT_END: usize = 2 * HISTORY;
+
+const SYNTHESIS_END: usize = INPUT_END + 2 * HISTORY;
+
+const RESIDUAL_END: usize = SYNTHESIS_END + 2;
+
+pub const POST_BYTES: usize = 2 * POST_NUMBERS;
+
+// The postfilter's memory of its bytes.
+fn post_in(bytes: &[u8]) -> Postfilter
+    requires { ⌜ length (now bytes) ≡ postLength ⌝ }
+    ensures { λ r. ⌜ r ≡ postOf (words (now (bytes .entry))) ⌝ }
+{
+    let input_history = ten_in(&bytes[0..INPUT_END]);
+    let synthesis_history = ten_in(&bytes[INPUT_END..SYNTHESIS_END]);
+    let residual = one_in(&bytes[SYNTHESIS_END..RESIDUAL_END]);
+    let gain = one_in(&bytes[RESIDUAL_END..POST_BYTES]);
     Postfilter {
         input_history,
         synthesis_history,
-        previous_residual,
-        gain: GainControl { previous_gain },
+        previous_residual: residual[0],
+        gain: GainControl {
+            previous_gain: gain[0],
+        },
     }
 }
 
-// The state of a body.
-pub fn state_in(body: &[u8]) -> State
-    requires { ⌜ length (now body) ≡ 394 ⌝ }
-    ensures { λ r. ⌜ r ≡ stateOf (words (now (body .entry))) ⌝ }
-{
-    let core = core_in(body);
-    let post = post_in(body);
-    State { core, post }
-}
-
-// The body's numbers 0 to 174.
-fn write_core(core: Core, out: &mut [u8])
-    requires { ⌜ length (now out) ≡ 350 ⌝ }
-    ensures { λ _. ⌜ now (out .exit) ≡ bytesOf (core .lsp ++ (core .past ++ (core .sharpening .0 ∷ core .history))) ⌝ }
-{
-    let lsp = core.lsp;
-    put(&mut out[0..20], &lsp);
-    let past = core.past;
-    put(&mut out[20..328], &past);
-    let sharpening = core.sharpening;
-    let one = [sharpening.0];
-    put(&mut out[328..330], &one);
-    let history = core.history;
-    put(&mut out[330..350], &history);
-}
-
-// The body's numbers 175 to 196.
+// The bytes of the postfilter's memory.
 fn write_post(post: Postfilter, out: &mut [u8])
-    requires { ⌜ length (now out) ≡ 44 ⌝ }
-    ensures { λ _. ⌜ now (out .exit) ≡ bytesOf (post .«input_history» ++ (post .«synthesis_history» ++ (post .«previous_residual» ∷ post .gain .«previous_gain» ∷ []))) ⌝ }
+    requires { ⌜ length (now out) ≡ postLength ⌝ }
+    ensures { λ _. ⌜ now (out .exit) ≡ bytesOf (postNumbers post) ⌝ }
 {
     let input_history = post.input_history;
-    put(&mut out[0..20], &input_history);
+    write_ten(input_history, &mut out[0..INPUT_END]);
     let synthesis_history = post.synthesis_history;
-    put(&mut out[20..40], &synthesis_history);
+    write_ten(synthesis_history, &mut out[INPUT_END..SYNTHESIS_END]);
+    let residual = [post.previous_residual];
+    write_one(residual, &mut out[SYNTHESIS_END..RESIDUAL_END]);
     let gain = post.gain;
-    let two = [post.previous_residual, gain.previous_gain];
-    put(&mut out[40..44], &two);
+    let smoothed = [gain.previous_gain];
+    write_one(smoothed, &mut out[RESIDUAL_END..POST_BYTES]);
+}
+
+// ---- the body: the core, and then the postfilter
+pub const BODY_BYTES: usize = CORE_BYTES + POST_BYTES;
+
+// The state of a body.
+pub fn state_in(body: &[u8]) -> State
+    requires { ⌜ length (now body) ≡ bodyLength ⌝ }
+    ensures { λ r. ⌜ r ≡ stateOf (words (now (body .entry))) ⌝ }
+{
+    let core = core_in(&body[0..CORE_BYTES]);
+    let post = post_in(&body[CORE_BYTES..BODY_BYTES]);
+    State { core, post }
 }
 
 // The body of a state.
 pub fn write_body(state: State, out: &mut [u8])
-    requires { ⌜ length (now out) ≡ 394 ⌝ }
+    requires { ⌜ length (now out) ≡ bodyLength ⌝ }
     ensures { λ _. ⌜ now (out .exit) ≡ bytesOf (numbersOf state) ⌝ }
 {
     let core = state.core;
-    write_core(core, &mut out[0..350]);
+    write_core(core, &mut out[0..CORE_BYTES]);
     let post = state.post;
-    write_post(post, &mut out[350..394]);
+    write_post(post, &mut out[CORE_BYTES..BODY_BYTES]);
 }

@@ -4,6 +4,10 @@ use mathlib.Core.List.{List, _++_}
 use Prim.Native.Nat.{ℕ, _+_, _≤_}
 use lib.ListN.{length, take}
 
+-- how many bytes are lent for a line: more than any line has
+abbrev pub lineRoom : ℕ
+lineRoom = 128
+
 -- the first k bytes of `before`, and xs after them, are the first r bytes of `after`
 abbrev pub Put : List ℕ → ℕ → List ℕ → ℕ → List ℕ → Type 0
 Put before k xs r after = (r ≡ k + length xs) × (take r after ≡ take k before ++ xs)

@@ -5,7 +5,7 @@ ghost use Prim.Native.Nat.{_+_, _<_, _≤_};
 ghost use lib.IntN.{natAbs};
 ghost use lib.ListN.{length, take};
 ghost use Rattle.lines.specs.Lines.{decimal, integer, larger, peakOf, anyOf, markOf, flagDigit, frameLine, refusedLine, cutLine, stateLine};
-ghost use Rattle.lines.specs.Put.{Put, Within};
+ghost use Rattle.lines.specs.Put.{lineRoom, Put, Within};
 
 // ---- peak and mark
 fn larger(a: i32, b: i32) -> i32
@@ -129,9 +129,12 @@ fn put_flags(out: &mut [u8], at: usize, flags: [bool; 4]) -> usize
 }
 
 // ---- lines
+// The bytes that are lent for a line.
+pub const LINE_ROOM: usize = 128;
+
 // Each is written at the front of the lent bytes, and the answer is its length.
 pub fn frame_line(out: &mut [u8], number: u64, flags: [bool; 4], peak: i32) -> usize
-    requires { ⌜ length (now out) ≡ 80 ⌝ }
+    requires { ⌜ length (now out) ≡ lineRoom ⌝ }
     ensures line { λ r. ⌜ take r (now (out .exit)) ≡ frameLine number flags peak ⌝ }
     ensures within { λ r. ⌜ Within r (now (out .exit)) ⌝ }
 {
@@ -145,7 +148,7 @@ pub fn frame_line(out: &mut [u8], number: u64, flags: [bool; 4], peak: i32) -> u
 }
 
 pub fn refused_line(out: &mut [u8], number: u64, refusal: u64, place: usize) -> usize
-    requires { ⌜ length (now out) ≡ 80 ⌝ }
+    requires { ⌜ length (now out) ≡ lineRoom ⌝ }
     ensures line { λ r. ⌜ take r (now (out .exit)) ≡ refusedLine number refusal place ⌝ }
     ensures within { λ r. ⌜ Within r (now (out .exit)) ⌝ }
 {
@@ -158,7 +161,7 @@ pub fn refused_line(out: &mut [u8], number: u64, refusal: u64, place: usize) -> 
 }
 
 pub fn cut_line(out: &mut [u8], number: u64) -> usize
-    requires { ⌜ length (now out) ≡ 80 ⌝ }
+    requires { ⌜ length (now out) ≡ lineRoom ⌝ }
     ensures line { λ r. ⌜ take r (now (out .exit)) ≡ cutLine number ⌝ }
     ensures within { λ r. ⌜ Within r (now (out .exit)) ⌝ }
 {
@@ -167,7 +170,7 @@ pub fn cut_line(out: &mut [u8], number: u64) -> usize
 }
 
 pub fn state_line(out: &mut [u8], refusal: u64) -> usize
-    requires { ⌜ length (now out) ≡ 80 ⌝ }
+    requires { ⌜ length (now out) ≡ lineRoom ⌝ }
     ensures line { λ r. ⌜ take r (now (out .exit)) ≡ stateLine refusal ⌝ }
     ensures within { λ r. ⌜ Within r (now (out .exit)) ⌝ }
 {

@@ -1,5 +1,6 @@
 -- Signed: a signed local, and the entries of an array of signed numbers. Entries: entries of lists that are made from others.
 -- Fill, Ends, Place, Fold, Count, Grow: loops that fill an array, fill one from both ends, put a list into one, fold one, go by a count, and feed on what they made. Table: a rule of a whole table, by one test.
+-- Parts: a list and its parts.
 pub mod Signed
 pub mod Entries
 pub mod Fill
@@ -9,3 +10,4 @@ pub mod Fold
 pub mod Count
 pub mod Grow
 pub mod Table
+pub mod Parts

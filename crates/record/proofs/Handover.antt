@@ -13,7 +13,8 @@ use Rattle.outcome.specs.Outcome.{isAccepted}
 use Rattle.outcome.specs.Checks.{firstMet}
 use Rattle.outcome.proofs.Checks.{unmet, none-left, passed}
 use Rattle.state.specs.declared.State.{State}
-use Rattle.state.specs.State.{WellFormed, stateChecks, stateOutcome, numbersOf, stateOf}
+use Rattle.state.specs.State.{WellFormed, stateChecks, stateOutcome}
+use Rattle.state.specs.Layout.{numbersOf, stateOf}
 use Rattle.state.proofs.Numbers.{state-of-numbers, numbers-words}
 use Rattle.coding.specs.Bytes.{words, bytesOf}
 use Rattle.record.specs.Record.{endOf, distanceOf, noteLength, numbersIn, trailerChecks, bodyChecks, byteChecks, recordOutcome, told, readCall, trailerBytes, encoded}

@@ -11,7 +11,8 @@ use Rattle.outcome.specs.Outcome.{isAccepted}
 use Rattle.outcome.specs.Checks.{firstMet}
 use Rattle.outcome.proofs.Checks.{passed, both-accept, none-met}
 use Rattle.state.specs.declared.State.{State}
-use Rattle.state.specs.State.{stateChecks, stateOf}
+use Rattle.state.specs.State.{stateChecks}
+use Rattle.state.specs.Layout.{stateOf}
 use Rattle.coding.specs.Bytes.{words}
 use Rattle.record.specs.declared.Answer.{Answer}
 use Rattle.record.specs.Record.{endOf, distanceOf, noteLength, noteOf, numbersIn, sizeChecks, trailerChecks, bodyChecks, byteChecks, recordOutcome, zeroState, refusedAnswer, told, readCall}

@@ -8,7 +8,7 @@ use lib.ListN.{length, take, drop, length-drop, take-append-drop}
 use lib.Seq.{drop-drop, getD-drop, length-take-le}
 use Rattle.outcome.specs.Outcome.{isAccepted}
 use Rattle.outcome.specs.Checks.{firstMet}
-use Rattle.state.specs.State.{numbersOf}
+use Rattle.state.specs.Layout.{numbersOf}
 use Rattle.state.proofs.Numbers.{numbers-of-state}
 use Rattle.coding.specs.Bytes.{words, bytesOf, Bytes}
 use Rattle.record.specs.Record.{endOf, numbersIn, byteChecks, recordOutcome, readCall, encoded}

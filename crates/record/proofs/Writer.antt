@@ -13,7 +13,8 @@ use Rattle.outcome.specs.Outcome.{isAccepted}
 use Rattle.outcome.specs.Checks.{firstMet}
 use Rattle.outcome.proofs.Checks.{both-accept, none-met}
 use Rattle.state.specs.declared.State.{State}
-use Rattle.state.specs.State.{stateChecks, numbersOf}
+use Rattle.state.specs.State.{stateChecks}
+use Rattle.state.specs.Layout.{numbersOf}
 use Rattle.coding.specs.Bytes.{bytesOf}
 use Rattle.coding.proofs.Laid.{bytes-length, Laid, laid-none, laid-more, laid-done}
 use Rattle.record.specs.Record.{trailerBytes, encoded, roomChecks, writeChecks, written, writeCall}

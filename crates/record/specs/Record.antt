@@ -11,9 +11,11 @@ use Rattle.outcome.specs.declared.Outcome.the-variants.{OutputLength, RecordSho
 use Rattle.outcome.specs.Outcome.{isAccepted}
 use Rattle.outcome.specs.Checks.{Check, check, firstMet}
 use Rattle.state.specs.declared.State.{State}
-use Rattle.state.specs.State.{stateChecks, stateOf, numbersOf}
+use Rattle.state.specs.State.{stateChecks}
+use Rattle.state.specs.Layout.{stateCount, numbersOf, stateOf}
 use Rattle.record.specs.declared.Answer.{Answer}
 use Rattle.coding.specs.Bytes.{unsigned, words, bytesOf}
+use Rattle.coding.specs.Body.{bodyLength}
 
 -- ---- trailers
 pub record Trailer : Type 0 where
@@ -23,7 +25,7 @@ pub record Trailer : Type 0 where
 
 -- the versions that are read; the first is the one that is written
 abbrev pub current : Trailer
-current = record { version = 1; distance = 394; count = 197 }
+current = record { version = 1; distance = bodyLength; count = stateCount }
 
 abbrev pub versions : List Trailer
 versions = current ∷ []
@@ -95,7 +97,7 @@ unfoldable pub recordOutcome : List ℕ → Outcome
 recordOutcome b = firstMet (recordChecks b)
 
 abbrev pub zeroState : State
-zeroState = stateOf (replicate 197 (pos 0))
+zeroState = stateOf (replicate stateCount (pos 0))
 
 -- a refused read gives the all-zero state
 abbrev pub refusedAnswer : Outcome → Answer

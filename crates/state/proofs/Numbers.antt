@@ -1,124 +1,97 @@
 -- A state as 197 numbers: they are as many, each of 16 bits, and the state of them is the state; and back. Assumes nothing.
-use mathlib.Core.Path.{_≡_, refl, sym, ap, _∙_}
-use mathlib.Core.List.{List, [], _∷_, _++_, append-assoc}
-use Prim.Native.Nat.{ℕ, suc, _+_, _<_}
-use native.Mathlib.Omega.{arith}
+use mathlib.Core.Path.{_≡_, refl, ap, _∙_}
+use mathlib.Core.List.{List, [], _∷_, _++_}
+use Prim.Native.Nat.{ℕ}
 use lib.IntN.{ℤ, pos}
-use lib.ListN.{length, take, drop, length-append, take-append-drop, drop-of-length-le}
-use lib.Seq.{take-at, drop-at, drop-cons, drop-drop, getD-append-add}
+use native.Mathlib.Omega.{arith}
+use lib.ListN.{length, take, drop}
+use lib.Seq.{getD-take, getD-drop}
 use Rattle.lists.specs.Lists.{at}
+use Rattle.lists.specs.Parts.{joined, total, starts, cut, partAt}
+use Rattle.lists.proofs.Parts.{Each, each-so, cut-joined, counted-cut, joined-cut, at-cut, one-entry}
 use Rattle.basicop.specs.Words.{Words}
-use Rattle.basicop.proofs.Words.{words-one, words-append}
+use Rattle.basicop.proofs.Words.{zero-fits, words-one, words-append}
 use Rattle.state.specs.declared.State.{State}
-use Rattle.state.specs.State.{WellFormed, numbersOf, stateOf}
+use Rattle.state.specs.State.{WellFormed}
+use Rattle.state.specs.Layout.{Part, counts, partsIn, coreParts, coreCount, coreNumbers, coreFrom, coreOf, postParts, postCount, postNumbers, postFrom, postOf, stateParts, stateCount, numbersOf, stateFrom, stateOf}
 
--- ---- the parts of a list that is put together from parts
-part-at : (xs p b q : List ℤ) (k n : ℕ) → xs ≡ p ++ (b ++ q) → length p ≡ k → length b ≡ n → take n (drop k xs) ≡ b
-part-at xs p b q k n e hk hn = ap (λ (l : List ℤ). take n (drop k l)) e ∙ ap (take n) (drop-at p (b ++ q) k hk) ∙ take-at b q n hn
+-- the numbers at which document 01 has the parts start
+pub numbered : starts 0 (counts coreParts ++ counts postParts) ≡ 0 ∷ 10 ∷ 164 ∷ 165 ∷ 175 ∷ 185 ∷ 195 ∷ 196 ∷ []
+numbered = refl
 
-number-at : (xs p q : List ℤ) (k i : ℕ) → xs ≡ p ++ q → length p ≡ k → at xs (k + i) ≡ at q i
-number-at xs p q k i e hk = ap (λ (l : List ℤ). at l (k + i)) e ∙ ap (λ (m : ℕ). at (p ++ q) (m + i)) (sym hk) ∙ getD-append-add p q i (pos 0)
+-- ---- parts of numbers of 16 bits
+words-joined : (ns : List ℕ) (ps : List (List ℤ)) → Each Words ns ps → Words (total ns) (joined ps)
+words-joined [] [] e = record { count = refl; fit = λ i. zero-fits }
+words-joined [] (p ∷ ps) e = absurd e
+words-joined (n ∷ ns) [] e = absurd e
+words-joined (n ∷ ns) (p ∷ ps) e = words-append p (joined ps) (e .0) (words-joined ns ps (e .1))
 
+-- every part of a is of 16-bit numbers, as many as it says
+abbrev Held : {A : Type 0} → List (Part A) → A → Type 0
+Held ps a = Each Words (counts ps) (partsIn ps a)
+
+module _ {A : Type 0} (ps : List (Part A)) (a : A) (h : Held ps a) where
+  held-words : Words (total (counts ps)) (joined (partsIn ps a))
+  held-words = words-joined (counts ps) (partsIn ps a) h
+
+  held-cut : cut (counts ps) (joined (partsIn ps a)) ≡ partsIn ps a
+  held-cut = cut-joined (counts ps) (partsIn ps a) (each-so (λ (n : ℕ) (p : List ℤ) (w : Words n p). w .count) (counts ps) (partsIn ps a) h)
+
+-- ---- there and back
 module _ (s : State) (w : WellFormed s) where
-  abbrev p₁ : List ℤ
-  p₁ = s .core .lsp ++ s .core .past
+  in-core : Held coreParts (s .core)
+  in-core = (w .lsp, (w .past, (words-one _ (w .sharpening), (w .history, tt))))
 
-  abbrev p₂ : List ℤ
-  p₂ = p₁ ++ (s .core .sharpening .0 ∷ [])
+  in-post : Held postParts (s .post)
+  in-post = (w .input-history, (w .synthesis-history, (words-one _ (w .previous-residual), (words-one _ (w .previous-gain), tt))))
 
-  abbrev p₃ : List ℤ
-  p₃ = p₂ ++ s .core .history
+  in-state : Held stateParts s
+  unfolding coreNumbers postNumbers
+  in-state = (held-words coreParts (s .core) in-core, (held-words postParts (s .post) in-post, tt))
 
-  abbrev p₄ : List ℤ
-  p₄ = p₃ ++ s .post .«input_history»
+  core-back : coreOf (coreNumbers (s .core)) ≡ s .core
+  unfolding coreOf coreNumbers
+  core-back = ap coreFrom (held-cut coreParts (s .core) in-core)
 
-  abbrev p₅ : List ℤ
-  p₅ = p₄ ++ s .post .«synthesis_history»
-
-  k₁ : length p₁ ≡ 164
-  k₁ = omega (arith, length-append (s .core .lsp) (s .core .past), w .lsp .count, w .past .count)
-
-  k₂ : length p₂ ≡ 165
-  k₂ = omega (arith, length-append p₁ (s .core .sharpening .0 ∷ []), k₁)
-
-  k₃ : length p₃ ≡ 175
-  k₃ = omega (arith, length-append p₂ (s .core .history), k₂, w .history .count)
-
-  k₄ : length p₄ ≡ 185
-  k₄ = omega (arith, length-append p₃ (s .post .«input_history»), k₃, w .input-history .count)
-
-  k₅ : length p₅ ≡ 195
-  k₅ = omega (arith, length-append p₄ (s .post .«synthesis_history»), k₄, w .synthesis-history .count)
-
-  abbrev ends : List ℤ
-  ends = s .post .«previous_residual» ∷ s .post .gain .«previous_gain» ∷ []
-
-  -- the numbers, as each part is found among them
-  n₁ : numbersOf s ≡ p₁ ++ (s .core .sharpening .0 ∷ s .core .history ++ (s .post .«input_history» ++ (s .post .«synthesis_history» ++ ends)))
-  unfolding numbersOf
-  n₁ = sym (append-assoc (s .core .lsp) (s .core .past) _)
-
-  n₂ : numbersOf s ≡ p₂ ++ (s .core .history ++ (s .post .«input_history» ++ (s .post .«synthesis_history» ++ ends)))
-  n₂ = n₁ ∙ sym (append-assoc p₁ (s .core .sharpening .0 ∷ []) _)
-
-  n₃ : numbersOf s ≡ p₃ ++ (s .post .«input_history» ++ (s .post .«synthesis_history» ++ ends))
-  n₃ = n₂ ∙ sym (append-assoc p₂ (s .core .history) _)
-
-  n₄ : numbersOf s ≡ p₄ ++ (s .post .«synthesis_history» ++ ends)
-  n₄ = n₃ ∙ sym (append-assoc p₃ (s .post .«input_history») _)
-
-  n₅ : numbersOf s ≡ p₅ ++ ends
-  n₅ = n₄ ∙ sym (append-assoc p₄ (s .post .«synthesis_history») _)
-
-  n₀ : numbersOf s ≡ s .core .lsp ++ (s .core .past ++ (s .core .sharpening .0 ∷ s .core .history ++ (s .post .«input_history» ++ (s .post .«synthesis_history» ++ ends))))
-  unfolding numbersOf
-  n₀ = refl
+  post-back : postOf (postNumbers (s .post)) ≡ s .post
+  unfolding postOf postNumbers
+  post-back = ap postFrom (held-cut postParts (s .post) in-post)
 
   pub state-of-numbers : stateOf (numbersOf s) ≡ s
-  unfolding stateOf
-  state-of-numbers =
-      let xs = numbersOf s in
-      λ i. record {
-        core = record {
-          lsp = part-at xs [] (s .core .lsp) _ 0 10 n₀ refl (w .lsp .count) i;
-          past = part-at xs (s .core .lsp) (s .core .past) _ 10 154 n₀ (w .lsp .count) (w .past .count) i;
-          sharpening = record { 0 = number-at xs p₁ _ 164 0 n₁ k₁ i };
-          history = part-at xs p₂ (s .core .history) _ 165 10 n₂ k₂ (w .history .count) i;
-        };
-        post = record {
-          «input_history» = part-at xs p₃ (s .post .«input_history») _ 175 10 n₃ k₃ (w .input-history .count) i;
-          «synthesis_history» = part-at xs p₄ (s .post .«synthesis_history») ends 185 10 n₄ k₄ (w .synthesis-history .count) i;
-          «previous_residual» = number-at xs p₅ ends 195 0 n₅ k₅ i;
-          gain = record { «previous_gain» = number-at xs p₅ ends 195 1 n₅ k₅ i };
-        };
-      }
+  unfolding stateOf numbersOf
+  state-of-numbers = ap stateFrom (held-cut stateParts s in-state) ∙ (λ i. record { core = core-back i; post = post-back i })
 
-  pub numbers-words : Words 197 (numbersOf s)
-  numbers-words =
-      let w₁ = words-append (s .core .lsp) (s .core .past) (w .lsp) (w .past) in
-      let w₂ = words-append p₁ (s .core .sharpening .0 ∷ []) w₁ (words-one (s .core .sharpening .0) (w .sharpening)) in
-      let w₃ = words-append p₂ (s .core .history) w₂ (w .history) in
-      let w₄ = words-append p₃ (s .post .«input_history») w₃ (w .input-history) in
-      let w₅ = words-append p₄ (s .post .«synthesis_history») w₄ (w .synthesis-history) in
-      let e = words-append (s .post .«previous_residual» ∷ []) (s .post .gain .«previous_gain» ∷ []) (words-one (s .post .«previous_residual») (w .previous-residual)) (words-one (s .post .gain .«previous_gain») (w .previous-gain)) in
-      rw n₅ (words-append p₅ ends w₅ e)
+  pub numbers-words : Words stateCount (numbersOf s)
+  unfolding numbersOf
+  numbers-words = held-words stateParts s in-state
 
--- ---- the numbers of the state of 197 numbers are those numbers
-module _ (xs : List ℤ) (l : length xs ≡ 197) where
-  next : (k n : ℕ) → take n (drop k xs) ++ drop (k + n) xs ≡ drop k xs
-  next k n = ap (λ (r : List ℤ). take n (drop k xs) ++ r) (sym (drop-drop n k xs)) ∙ take-append-drop n (drop k xs)
+-- ---- back and there
+core-numbers : (xs : List ℤ) → length xs ≡ coreCount → coreNumbers (coreOf xs) ≡ xs
+unfolding coreOf coreNumbers
+core-numbers xs l =
+    let ps = cut (counts coreParts) xs in
+    let c = counted-cut (counts coreParts) xs l in
+    ap joined (λ i. partAt ps 0 ∷ partAt ps 1 ∷ one-entry (partAt ps 2) (pos 0) (c .1 .1 .0) i ∷ partAt ps 3 ∷ []) ∙ joined-cut (counts coreParts) xs l
 
-  one : (k : ℕ) → k < 197 → at xs k ∷ drop (suc k) xs ≡ drop k xs
-  one k h = sym (drop-cons xs k (pos 0) (omega (arith, l)))
+post-numbers : (xs : List ℤ) → length xs ≡ postCount → postNumbers (postOf xs) ≡ xs
+unfolding postOf postNumbers
+post-numbers xs l =
+    let ps = cut (counts postParts) xs in
+    let c = counted-cut (counts postParts) xs l in
+    ap joined (λ i. partAt ps 0 ∷ partAt ps 1 ∷ one-entry (partAt ps 2) (pos 0) (c .1 .1 .0) i ∷ one-entry (partAt ps 3) (pos 0) (c .1 .1 .1 .0) i ∷ []) ∙ joined-cut (counts postParts) xs l
 
-  pub numbers-of-state : numbersOf (stateOf xs) ≡ xs
-  unfolding numbersOf stateOf
-  numbers-of-state =
-      let e₈ : drop 197 xs ≡ [] = drop-of-length-le xs {i = 197} (omega (arith, l)) in
-      let e₇ : at xs 195 ∷ at xs 196 ∷ [] ≡ drop 195 xs = ap (λ (r : List ℤ). at xs 195 ∷ at xs 196 ∷ r) (sym e₈) ∙ ap (λ (r : List ℤ). at xs 195 ∷ r) (one 196 (omega arith)) ∙ one 195 (omega arith) in
-      let e₆ = ap (λ (r : List ℤ). take 10 (drop 185 xs) ++ r) e₇ ∙ next 185 10 in
-      let e₅ = ap (λ (r : List ℤ). take 10 (drop 175 xs) ++ r) e₆ ∙ next 175 10 in
-      let e₄ = ap (λ (r : List ℤ). take 10 (drop 165 xs) ++ r) e₅ ∙ next 165 10 in
-      let e₃ = ap (λ (r : List ℤ). at xs 164 ∷ r) e₄ ∙ one 164 (omega arith) in
-      let e₂ = ap (λ (r : List ℤ). take 154 (drop 10 xs) ++ r) e₃ ∙ next 10 154 in
-      ap (λ (r : List ℤ). take 10 xs ++ r) e₂ ∙ next 0 10
+pub numbers-of-state : (xs : List ℤ) → length xs ≡ stateCount → numbersOf (stateOf xs) ≡ xs
+unfolding stateOf numbersOf
+numbers-of-state xs l =
+    let ps = cut (counts stateParts) xs in
+    let c = counted-cut (counts stateParts) xs l in
+    ap joined (λ i. core-numbers (partAt ps 0) (c .0) i ∷ post-numbers (partAt ps 1) (c .1 .0) i ∷ []) ∙ joined-cut (counts stateParts) xs l
+
+-- ---- the two numbers that rows 16 and 17 test
+pub sharpening-at : (xs : List ℤ) → stateOf xs .core .sharpening .0 ≡ at xs 164
+unfolding stateOf coreOf
+sharpening-at xs = at-cut (counts coreParts) (take coreCount xs) 2 0 (pos 0) (omega arith) ∙ getD-take coreCount xs 164 (pos 0) (omega arith)
+
+pub gain-at : (xs : List ℤ) → stateOf xs .post .gain .«previous_gain» ≡ at xs 196
+unfolding stateOf postOf
+gain-at xs = at-cut (counts postParts) (take postCount (drop coreCount xs)) 3 0 (pos 0) (omega arith) ∙ getD-take postCount (drop coreCount xs) 21 (pos 0) (omega arith) ∙ getD-drop coreCount xs 21 (pos 0)

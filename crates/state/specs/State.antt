@@ -1,13 +1,10 @@
 -- The state that is carried between frames: what it holds, and the checks of document 01 that turn it back.
 use mathlib.Core.Bool.{_||_}
-use mathlib.Core.List.{List, [], _∷_, _++_}
-use Prim.Native.Nat.{ℕ}
+use mathlib.Core.List.{List, [], _∷_}
 use lib.IntN.{ℤ, pos}
-use lib.ListN.{take, drop}
 use lib.Signed.{ltZ}
 use mir.Syntax.{w16}
 use mir.Val.{SFits}
-use Rattle.lists.specs.Lists.{at}
 use Rattle.basicop.specs.Words.{Words}
 use Rattle.outcome.specs.declared.Outcome.{Outcome}
 use Rattle.outcome.specs.declared.Outcome.the-variants.{Sharpening, SmoothedGain}
@@ -35,28 +32,3 @@ stateChecks s =
 
 unfoldable pub stateOutcome : State → Outcome
 stateOutcome s = firstMet (stateChecks s)
-
--- ---- as 197 numbers
--- the body of a record: 0..9 previous LSP, 10..163 past excitation, 164 sharpening, 165..174 synthesis history,
--- 175..184 postfilter input, 185..194 postfilter output, 195 previous residual, 196 smoothed gain
-unfoldable pub numbersOf : State → List ℤ
-numbersOf s =
-    let c = s .core in
-    let p = s .post in
-    c .lsp ++ (c .past ++ (c .sharpening .0 ∷ c .history ++ (p .«input_history» ++ (p .«synthesis_history» ++ (p .«previous_residual» ∷ p .gain .«previous_gain» ∷ [])))))
-
--- n numbers from number k on
-abbrev pub part : ℕ → ℕ → List ℤ → List ℤ
-part k n xs = take n (drop k xs)
-
-unfoldable pub stateOf : List ℤ → State
-stateOf xs =
-    record {
-      core = record { lsp = part 0 10 xs; past = part 10 154 xs; sharpening = record { 0 = at xs 164 }; history = part 165 10 xs };
-      post = record {
-        «input_history» = part 175 10 xs;
-        «synthesis_history» = part 185 10 xs;
-        «previous_residual» = at xs 195;
-        gain = record { «previous_gain» = at xs 196 };
-      };
-    }

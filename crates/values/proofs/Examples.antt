@@ -30,7 +30,8 @@ use Rattle.postfilter.specs.Tilt as tilts
 use Rattle.postfilter.specs.Preemphasis.{preemphasised}
 use Rattle.postfilter.specs.Postfilter.{filtered, processed}
 use Rattle.outcome.specs.Checks.{firstMet, firstOutside}
-use Rattle.state.specs.State.{WellFormed, stateOutcome, stateOf}
+use Rattle.state.specs.State.{WellFormed, stateOutcome}
+use Rattle.state.specs.Layout.{coreOf, postOf, stateOf}
 use Rattle.mr74.specs.Sheet.{lagsOf}
 use Rattle.mr74.specs.Checks.{frameOutcome}
 use Rattle.mr74.specs.Frame.{frameTrace}
@@ -47,7 +48,7 @@ zeros n = record { count = length-replicate n (pos 0); fit = fit n }
     fit (suc n) (suc i) = fit n i
 
 silent-well-formed : WellFormed silent
-unfolding silent stateOf
+unfolding silent stateOf coreOf postOf coreOf postOf
 silent-well-formed =
     record {
       lsp = zeros 10;
@@ -61,11 +62,11 @@ silent-well-formed =
     }
 
 seen-is : seen (traceOf silent call) ≡ expected
-unfolding flatMap iter tab clamp asr wrap add sub mult shl L-add L-sub L-mult L-shl L-shr-r L-deposit-h doublings norm-l div-s L-Extract Mpy-32-16 absolute lag-min relative cosine between lspOf raisedAt polynomial rowOf rowsOf inter6 phase start interpolated extended predicted sharpened sharpening feedback squares energy energyGain agc2 inverseTable rootScaled rootIndex rootFraction rootBetween inverseRoot outside fed numbersOf leaves leavesAny acc accs enhanced firstExcitation synthesised excited turn ran decoded firstMet stateOf lagsOf firstOutside frameOutcome frameTrace loud silent numerator denominator weighted residualSum residual tilts.impulse tilts.energy tilts.correlation tilts.tiltOf tilts.tilt preemphasised filtered processed agc controlled
+unfolding flatMap iter tab clamp asr wrap add sub mult shl L-add L-sub L-mult L-shl L-shr-r L-deposit-h doublings norm-l div-s L-Extract Mpy-32-16 absolute lag-min relative cosine between lspOf raisedAt polynomial rowOf rowsOf inter6 phase start interpolated extended predicted sharpened sharpening feedback squares energy energyGain agc2 inverseTable rootScaled rootIndex rootFraction rootBetween inverseRoot outside fed numbersOf leaves leavesAny acc accs enhanced firstExcitation synthesised excited turn ran decoded firstMet stateOf coreOf postOf lagsOf firstOutside frameOutcome frameTrace loud silent numerator denominator weighted residualSum residual tilts.impulse tilts.energy tilts.correlation tilts.tiltOf tilts.tilt preemphasised filtered processed agc controlled
 seen-is = refl
 
 pub example : Example
-unfolding silent stateOf stateOutcome firstMet frameTrace frameOutcome runCalls anyAccepted latestFlag
+unfolding silent stateOf coreOf postOf stateOutcome firstMet frameTrace frameOutcome runCalls anyAccepted latestFlag
 example =
     record {
       well-formed = silent-well-formed;
@@ -76,9 +77,9 @@ example =
     }
 
 pub frame-order : FrameOrder
-unfolding ordered stateOf firstMet firstOutside frameOutcome
+unfolding ordered stateOf coreOf postOf firstMet firstOutside frameOutcome
 frame-order = refl
 
 pub places : Places
-unfolding placed stateOf firstMet firstOutside frameOutcome
+unfolding placed stateOf coreOf postOf firstMet firstOutside frameOutcome
 places = refl

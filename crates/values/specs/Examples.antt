@@ -12,7 +12,8 @@ use Rattle.basicop.specs.Ops.{Quotient}
 use Rattle.state.specs.declared.State.{State}
 use Rattle.outcome.specs.declared.Outcome.the-variants.{Accepted}
 use Rattle.outcome.specs.Outcome.{numberOf, placeOf}
-use Rattle.state.specs.State.{WellFormed, stateOutcome, stateOf}
+use Rattle.state.specs.State.{WellFormed, stateOutcome}
+use Rattle.state.specs.Layout.{stateOf}
 use Rattle.mr74.specs.Checks.{frameOutcome}
 use Rattle.mr74.specs.Frame.{Trace}
 use Rattle.calls.specs.Calls.{Call, Frame, traceOf, runCalls, accepted, anyAccepted, latestFlag}

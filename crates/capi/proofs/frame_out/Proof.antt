@@ -9,13 +9,13 @@ use lib.ListN.{length, take, replicate}
 use Rattle.outcome.specs.Outcome.{isAccepted}
 use borrow.Rule.Slice.PartMut.{putMid}
 use Rattle.mr74.specs.Frame.{Called, called, frameCall}
-use Rattle.capi.specs.Capi.{sheetIn, roomOf, roomIn}
+use Rattle.capi.specs.Capi.{sampleCount, outLength, sheetIn, roomOf, roomIn}
 use Rattle.capi.proofs.Buffers.{room-most, room-lent, accepted-room, frame-accepted, frame-refused, whole-lent}
 use Rattle.capi.proofs.frame_out.Statement.{statement}
 use Rattle.capi.proofs.frame_out.Tie as tie
 
 -- the part that is lent is no longer than the samples
-room-fits : (c : tie.After-room) → c .room .result ≤ 160
+room-fits : (c : tie.After-room) → c .room .result ≤ sampleCount
 room-fits c = rw (c .room .ensures) (room-most (length (now (c .before .before .before .args .out))))
 
 -- what the call of the sheet's bytes gives, of a room of zeros
@@ -26,31 +26,31 @@ made c =
     let a = r .before .before .before .args in
     let k : r .room .result - 0 ≡ roomOf (length (now (a .out))) = omega (arith, r .room .ensures) in
     c .frame-in .ensures
-    ∙ ap (λ (n : ℕ). frameCall (sheetIn (now (a .sheet))) (a .state) (take n (replicate 160 (pos 0)))) k
+    ∙ ap (λ (n : ℕ). frameCall (sheetIn (now (a .sheet))) (a .state) (take n (replicate sampleCount (pos 0)))) k
     ∙ ap (λ (room : List ℤ). frameCall (sheetIn (now (a .sheet))) (a .state) room) (room-lent (length (now (a .out))))
 
--- an accepted call was lent 320 bytes, and all samples
-lent-all : (c : tie.Then1) → length (now (c .before .before .before .before .before .before .before .before .args .out)) ≡ 320
+-- an accepted call was lent all the bytes, and all samples
+lent-all : (c : tie.Then1) → length (now (c .before .before .before .before .before .before .before .before .args .out)) ≡ outLength
 lent-all c =
     let f = c .before .before .before in
     let a = f .before .before .before .before .before .args in
     accepted-room (sheetIn (now (a .sheet))) (a .state) (now (a .out)) (rw (ap (λ (x : Called). isAccepted (x .answer .outcome)) (made f)) at (sym (c .before .accepted .ensures) ∙ c .if1 .taken))
 
-samples-are : (c : tie.Then1) → putMid 0 (c .before .before .before .before .before .room .result - 0) (replicate 160 (pos 0)) (c .before .before .before .frame-in .last .1 .1 .0) ≡ c .before .before .before .frame-in .last .1 .1 .0
+samples-are : (c : tie.Then1) → putMid 0 (c .before .before .before .before .before .room .result - 0) (replicate sampleCount (pos 0)) (c .before .before .before .frame-in .last .1 .1 .0) ≡ c .before .before .before .frame-in .last .1 .1 .0
 samples-are c =
     let r = c .before .before .before .before .before in
-    let e : r .room .result ≡ roomOf 320 = r .room .ensures ∙ ap roomOf (lent-all c) in
+    let e : r .room .result ≡ roomOf outLength = r .room .ensures ∙ ap roomOf (lent-all c) in
     whole-lent (r .room .result - 0) _ (omega (arith, e))
 
-lent-length : (c : tie.After-frame-in) → length (c .frame-in .last .1 .1 .0) ≡ length (take (c .before .before .room .result - 0) (replicate 160 (pos 0)))
+lent-length : (c : tie.After-frame-in) → length (c .frame-in .last .1 .1 .0) ≡ length (take (c .before .before .room .result - 0) (replicate sampleCount (pos 0)))
 lent-length c = search needs
 
-all-there : (c : tie.Then1) → length (putMid 0 (c .before .before .before .before .before .room .result - 0) (replicate 160 (pos 0)) (c .before .before .before .frame-in .last .1 .1 .0)) ≡ 160
+all-there : (c : tie.Then1) → length (putMid 0 (c .before .before .before .before .before .room .result - 0) (replicate sampleCount (pos 0)) (c .before .before .before .frame-in .last .1 .1 .0)) ≡ sampleCount
 all-there c =
     let f = c .before .before .before in
     let r = f .before .before in
-    let e : r .room .result - 0 ≡ 160 = omega (arith, r .room .ensures ∙ ap roomOf (lent-all c)) in
-    ap length (samples-are c) ∙ lent-length f ∙ ap (λ (n : ℕ). length (take n (replicate 160 (pos 0)))) e
+    let e : r .room .result - 0 ≡ sampleCount = omega (arith, r .room .ensures ∙ ap roomOf (lent-all c)) in
+    ap length (samples-are c) ∙ lent-length f ∙ ap (λ (n : ℕ). length (take n (replicate sampleCount (pos 0)))) e
 
 returns : tie.Need-returns
 returns c =

@@ -3,6 +3,7 @@ use native.Mathlib.Omega.{arith}
 use mathlib.Core.Path.{_≡_}
 use denote.Ref.{now}
 use lib.ListN.{length}
+use Rattle.capi.specs.Capi.{sheetCount}
 use Rattle.capi.proofs.Buffers.{sheet-none, sheet-all}
 use Rattle.capi.proofs.sheet_in.Statement.{statement}
 use Rattle.capi.proofs.sheet_in.Tie as tie
@@ -15,7 +16,7 @@ returns-2 c =
     let f = c .before in
     let e = f .before .before in
     let s = e .before .before in
-    let l : length (f .fill .last .0) ≡ 182 = search needs in
+    let l : length (f .fill .last .0) ≡ sheetCount = search needs in
     (omega arith, sheet-all (now (s .args .sheet)) (f .fill .last .0) (e .if1 .left) l (f .fill .ensures))
 
 pub sheet-in-spec : {M : Type 1} → statement M

@@ -1,28 +1,31 @@
+-- `coding::post_in`: each part is read from its stretch, and the parts are those that the numbers are cut into.
 use borrow.Author.Needs.{needs}
-use native.Mathlib.Omega.{arith}
-use mathlib.Core.Path.{_∙_}
+use mathlib.Core.Path.{ap, _∙_}
+use mathlib.Core.List.{List}
 use denote.Ref.{now}
+use lib.IntN.{ℤ}
 use mir.Syntax.{w16}
+use Rattle.lists.specs.Lists.{at}
 use Rattle.lists.proofs.Signed.{got}
-use Rattle.state.specs.State.{stateOf}
-use Rattle.coding.proofs.Words.{words-part, at-words}
+use Rattle.state.specs.Layout.{counts, postParts, postFrom, postOf}
+use Rattle.coding.proofs.Words.{words-cut}
 use Rattle.coding.proofs.post_in.Statement.{statement}
 use Rattle.coding.proofs.post_in.Tie as tie
 
 returns : tie.Need-returns
-unfolding stateOf
+unfolding postOf
 returns c =
-    let w = c .before .before .before in
-    let f₂ = w .before .before .before .before in
-    let f₁ = f₂ .before .before .before .before in
-    let s = f₁ .before .before .before .before in
-    let b = now (s .args .body) in
-    λ i. record {
-      «input_history» = (f₁ .fill .ensures ∙ words-part b 175 10) i;
-      «synthesis_history» = (f₂ .fill2 .ensures ∙ words-part b 185 10) i;
-      «previous_residual» = got w16 (w .word .ok) (w .word .ensures ∙ at-words b 195 (omega (arith, s .pre))) i;
-      gain = record { «previous_gain» = got w16 (c .word2 .ok) (c .word2 .ensures ∙ at-words b 196 (omega (arith, s .pre))) i };
-    }
+    let g = c .before .before in
+    let r = g .before .before in
+    let y = r .before .before in
+    let x = y .before .before in
+    (λ i. record {
+      «input_history» = x .ten-in .ensures i;
+      «synthesis_history» = y .ten-in2 .ensures i;
+      «previous_residual» = got w16 (c .before .t22 .given) (ap (λ (xs : List ℤ). at xs 0) (r .one-in .ensures)) i;
+      gain = record { «previous_gain» = got w16 (c .t25 .given) (ap (λ (xs : List ℤ). at xs 0) (g .one-in2 .ensures)) i };
+    })
+    ∙ ap postFrom (words-cut (counts postParts) (now (x .before .before .before .args .bytes)))
 
 pub post-in-spec : {M : Type 1} → statement M
 post-in-spec =
@@ -31,17 +34,19 @@ post-in-spec =
     (λ c. search needs)
     (λ c. search needs)
     (λ c. search needs)
+    (λ c κs. search needs)
+    (λ c. search needs)
+    (λ c. search needs)
     (λ c. search needs)
     (λ c κs. search needs)
     (λ c. search needs)
     (λ c. search needs)
     (λ c. search needs)
+    (λ c κs. search needs)
+    (λ c. search needs)
+    (λ c. search needs)
     (λ c. search needs)
     (λ c κs. search needs)
     (λ c. search needs)
     (λ c. search needs)
-    (λ c κs. search needs)
-    (λ c. search needs)
-    (λ c. search needs)
-    (λ c κs. search needs)
     returns)

@@ -1,19 +1,21 @@
+-- `coding::write_body`: the bytes of core and postfilter, laid one after the other.
 use borrow.Author.Needs.{needs}
-use mathlib.Core.Path.{_≡_}
+use mathlib.Core.List.{[], _∷_}
 use denote.Ref.{now}
-use lib.ListN.{length}
-use Rattle.coding.proofs.Laid.{body-written}
+use Rattle.state.specs.Layout.{counts, partsIn, stateParts, numbersOf}
+use Rattle.coding.proofs.Words.{doubled}
+use Rattle.coding.proofs.Laid.{laid-parts}
 use Rattle.coding.proofs.write_body.Statement.{statement}
 use Rattle.coding.proofs.write_body.Tie as tie
 
 returns : tie.Need-returns
+unfolding numbersOf
 returns c =
-    let p₂ = c .before .before in
-    let p₁ = p₂ .before .before .before .before .before in
-    let s = p₁ .before .before .before .before in
-    let k₁ : length (p₁ .write-core .last .1 .0) ≡ 350 = search needs in
-    let k₂ : length (p₂ .write-post .last .1 .0) ≡ 44 = search needs in
-    body-written (s .args .state) (now (s .args .out)) (p₁ .write-core .last .1 .0) (p₂ .write-post .last .1 .0) (s .pre) k₁ k₂ (p₁ .write-core .ensures) (p₂ .write-post .ensures)
+    let p = c .before .before in
+    let k = p .before .before .before .before .before in
+    let s = k .before .before .before .before in
+    laid-parts (doubled (counts stateParts)) (partsIn stateParts (s .args .state)) (k .write-core .last .1 .0 ∷ p .write-post .last .1 .0 ∷ []) (now (s .args .out)) (s .pre) (search needs)
+    (λ i. k .write-core .ensures i ∷ p .write-post .ensures i ∷ [])
 
 pub write-body-spec : {M : Type 1} → statement M
 write-body-spec =

@@ -1,44 +1,30 @@
-use borrow.Author.Needs.{needs}
-use native.Mathlib.Omega.{arith}
-use mathlib.Core.Path.{_≡_, ap, _∙_}
-use mathlib.Core.List.{[], _∷_}
+-- `coding::write_core`: the bytes of each part, laid one after another.
 use Prim.Native.Nat.{_<_, _^_}
+use borrow.Author.Needs.{needs}
+use mathlib.Core.List.{[], _∷_}
 use denote.Ref.{now}
-use lib.IntN.{ℤ}
-use lib.ListN.{length}
 use lib.Signed.{mag}
-use mir.Syntax.{w16}
-use mir.Val.{hbits}
-use Rattle.lists.proofs.Signed.{back}
-use Rattle.coding.specs.Bytes.{bytesOf}
-use Rattle.coding.proofs.Laid.{core-written}
+use Rattle.state.specs.Layout.{counts, partsIn, coreParts, coreNumbers}
+use Rattle.coding.proofs.Bytes.{one-put}
+use Rattle.coding.proofs.Words.{doubled}
+use Rattle.coding.proofs.Laid.{laid-parts}
 use Rattle.coding.proofs.write_core.Statement.{statement}
 use Rattle.coding.proofs.write_core.Tie as tie
 
--- the lengths of the arrays, and the range of the number
-lsp-length : (c : tie.Start) → length (c .args .core .lsp) ≡ 10
-lsp-length c = search needs
-
-past-length : (c : tie.Start) → length (c .args .core .past) ≡ 154
-past-length c = search needs
-
-history-length : (c : tie.Start) → length (c .args .core .history) ≡ 10
-history-length c = search needs
-
-sharpening-fits : (c : tie.Start) → mag (c .args .core .sharpening .0) < 2 ^ hbits w16
+sharpening-fits : (c : tie.Start) → mag (c .args .core .sharpening .0) < 2 ^ 15
 sharpening-fits c = search needs
 
 returns : tie.Need-returns
+unfolding coreNumbers
 returns c =
-    let p₄ = c .before .before in
-    let p₃ = p₄ .before .before .before .before .before .before in
-    let p₂ = p₃ .before .before .before .before .before .before .before in
-    let p₁ = p₂ .before .before .before .before .before .before in
-    let s = p₁ .before .before .before .before .before in
-    let a = s .args .core in
-    core-written (now (s .args .out)) (a .lsp) (a .past) (a .history) (a .sharpening .0) (p₁ .put .last .0) (p₂ .put2 .last .0) (p₃ .put3 .last .0) (p₄ .put4 .last .0)
-    (s .pre) (lsp-length s) (past-length s) (history-length s)
-    (p₁ .put .ensures) (p₂ .put2 .ensures) (p₃ .put3 .ensures ∙ ap (λ (z : ℤ). bytesOf (z ∷ [])) (back w16 {z = a .sharpening .0} (sharpening-fits s))) (p₄ .put4 .ensures)
+    let h = c .before .before in
+    let n = h .before .before .before .before .before in
+    let p = n .before .before .before .before .before .before in
+    let l = p .before .before .before .before .before in
+    let s = l .before .before .before .before in
+    let e = one-put (s .args .core .sharpening .0) (sharpening-fits s) (n .write-one .ensures) in
+    laid-parts (doubled (counts coreParts)) (partsIn coreParts (s .args .core)) (l .write-ten .last .1 .0 ∷ p .write-past .last .1 .0 ∷ n .write-one .last .1 .0 ∷ h .write-ten2 .last .1 .0 ∷ []) (now (s .args .out)) (s .pre) (search needs)
+    (λ i. l .write-ten .ensures i ∷ p .write-past .ensures i ∷ e i ∷ h .write-ten2 .ensures i ∷ [])
 
 pub write-core-spec : {M : Type 1} → statement M
 write-core-spec =
@@ -47,14 +33,7 @@ write-core-spec =
     (λ c. search needs)
     (λ c. search needs)
     (λ c. search needs)
-    (λ c. search needs)
-    (λ c κs. omega (arith, lsp-length (c .before .before .before .before)))
-    (λ c. search needs)
-    (λ c. search needs)
-    (λ c. search needs)
-    (λ c. search needs)
-    (λ c κs. omega (arith, past-length (c .before .before .before .before .before .before .before .before .before .before)))
-    (λ c. search needs)
+    (λ c κs. search needs)
     (λ c. search needs)
     (λ c. search needs)
     (λ c. search needs)
@@ -62,7 +41,10 @@ write-core-spec =
     (λ c. search needs)
     (λ c. search needs)
     (λ c. search needs)
+    (λ c κs. search needs)
     (λ c. search needs)
-    (λ c κs. omega (arith, history-length (c .before .before .before .before .before .before .before .before .before .before .before .before .before .before .before .before .before .before .before .before .before .before .before)))
+    (λ c. search needs)
+    (λ c. search needs)
+    (λ c κs. search needs)
     (λ c. search needs)
     returns)

@@ -1,44 +1,34 @@
-use borrow.Author.Needs.{needs}
-use native.Mathlib.Omega.{arith}
-use mathlib.Core.Path.{_≡_, ap₂, _∙_}
-use mathlib.Core.List.{[], _∷_}
+-- `coding::write_post`: the bytes of each part, laid one after another.
 use Prim.Native.Nat.{_<_, _^_}
+use borrow.Author.Needs.{needs}
+use mathlib.Core.List.{[], _∷_}
 use denote.Ref.{now}
-use lib.IntN.{ℤ}
-use lib.ListN.{length}
 use lib.Signed.{mag}
-use mir.Syntax.{w16}
-use mir.Val.{hbits}
-use Rattle.lists.proofs.Signed.{back}
-use Rattle.coding.specs.Bytes.{bytesOf}
-use Rattle.coding.proofs.Laid.{post-written}
+use Rattle.state.specs.Layout.{counts, partsIn, postParts, postNumbers}
+use Rattle.coding.proofs.Bytes.{one-put}
+use Rattle.coding.proofs.Words.{doubled}
+use Rattle.coding.proofs.Laid.{laid-parts}
 use Rattle.coding.proofs.write_post.Statement.{statement}
 use Rattle.coding.proofs.write_post.Tie as tie
 
--- the lengths of the arrays, and the ranges of the numbers
-input-length : (c : tie.Start) → length (c .args .post .«input_history») ≡ 10
-input-length c = search needs
-
-synthesis-length : (c : tie.Start) → length (c .args .post .«synthesis_history») ≡ 10
-synthesis-length c = search needs
-
-residual-fits : (c : tie.Start) → mag (c .args .post .«previous_residual») < 2 ^ hbits w16
+residual-fits : (c : tie.Start) → mag (c .args .post .«previous_residual») < 2 ^ 15
 residual-fits c = search needs
 
-gain-fits : (c : tie.Start) → mag (c .args .post .gain .«previous_gain») < 2 ^ hbits w16
+gain-fits : (c : tie.Start) → mag (c .args .post .gain .«previous_gain») < 2 ^ 15
 gain-fits c = search needs
 
 returns : tie.Need-returns
+unfolding postNumbers
 returns c =
-    let p₃ = c .before .before in
-    let p₂ = p₃ .before .before .before .before .before .before .before .before in
-    let p₁ = p₂ .before .before .before .before .before .before in
-    let s = p₁ .before .before .before .before .before in
-    let a = s .args .post in
-    post-written (now (s .args .out)) (a .«input_history») (a .«synthesis_history») (a .«previous_residual») (a .gain .«previous_gain») (p₁ .put .last .0) (p₂ .put2 .last .0) (p₃ .put3 .last .0)
-    (s .pre) (input-length s) (synthesis-length s)
-    (p₁ .put .ensures) (p₂ .put2 .ensures)
-    (p₃ .put3 .ensures ∙ ap₂ (λ (x y : ℤ). bytesOf (x ∷ y ∷ [])) (back w16 {z = a .«previous_residual»} (residual-fits s)) (back w16 {z = a .gain .«previous_gain»} (gain-fits s)))
+    let g = c .before .before in
+    let r = g .before .before .before .before .before .before in
+    let y = r .before .before .before .before .before in
+    let x = y .before .before .before .before .before in
+    let s = x .before .before .before .before in
+    let e = one-put (s .args .post .«previous_residual») (residual-fits s) (r .write-one .ensures) in
+    let f = one-put (s .args .post .gain .«previous_gain») (gain-fits s) (g .write-one2 .ensures) in
+    laid-parts (doubled (counts postParts)) (partsIn postParts (s .args .post)) (x .write-ten .last .1 .0 ∷ y .write-ten2 .last .1 .0 ∷ r .write-one .last .1 .0 ∷ g .write-one2 .last .1 .0 ∷ []) (now (s .args .out)) (s .pre) (search needs)
+    (λ i. x .write-ten .ensures i ∷ y .write-ten2 .ensures i ∷ e i ∷ f i ∷ [])
 
 pub write-post-spec : {M : Type 1} → statement M
 write-post-spec =
@@ -47,14 +37,15 @@ write-post-spec =
     (λ c. search needs)
     (λ c. search needs)
     (λ c. search needs)
-    (λ c. search needs)
-    (λ c κs. omega (arith, input-length (c .before .before .before .before)))
-    (λ c. search needs)
+    (λ c κs. search needs)
     (λ c. search needs)
     (λ c. search needs)
     (λ c. search needs)
-    (λ c κs. omega (arith, synthesis-length (c .before .before .before .before .before .before .before .before .before .before)))
+    (λ c κs. search needs)
     (λ c. search needs)
+    (λ c. search needs)
+    (λ c. search needs)
+    (λ c κs. search needs)
     (λ c. search needs)
     (λ c. search needs)
     (λ c. search needs)
