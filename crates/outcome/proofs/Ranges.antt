@@ -7,7 +7,7 @@ use native.Mathlib.Numerals.{add-one}
 use native.Mathlib.Omega.{arith}
 use lib.Dec.{ltb}
 use lib.IntN.{ℤ, pos}
-use lib.ListN.{length, drop, drop-of-length-le, length-replicate, replicate, getD-replicate}
+use lib.ListN.{length, drop, drop-of-length-le, replicate}
 use lib.Seq.{drop-cons}
 use lib.Signed.{_≤ℤ_, ltZ}
 use borrow.Author.Tests.{not-true, lt-ltb, le-ltb, ltb-true, ltb-false}
