@@ -37,7 +37,7 @@ module _ (sheet : List ℤ) (s : State) (out : List ℤ) where
   told-go true e = ap accepted (trace-accepted e)
   told-go false e = ap accepted (trace-refused e)
 
-  -- a trace is accepted exactly when no row of the frame order is met
+  -- a trace is accepted exactly when no check of the frame order is met
   pub told : accepted (frameTrace sheet s out) ≡ isAccepted o
   told = told-go (isAccepted o) refl
 
