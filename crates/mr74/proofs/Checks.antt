@@ -1,6 +1,6 @@
 -- The groups of checks of a frame call: what each has shown where it accepts, and the places of its refusals. Assumes nothing.
 use Prim.Native.Nat.{ℕ, _+_, _≤_, _<_}
-use mathlib.Core.Path.{_≡_, refl}
+use mathlib.Core.Path.{_≡_}
 use mathlib.Core.Bool.{true}
 use mathlib.Core.List.{List, [], _∷_, _++_}
 use native.Mathlib.Omega.{arith}
@@ -8,19 +8,19 @@ use lib.IntN.{ℤ, pos}
 use lib.ListN.{length, take, drop, replicate}
 use lib.Seq.{length-take-le}
 use lib.Signed.{_≤ℤ_}
-use borrow.Author.Tests.{eqb-true, not-false}
+use borrow.Author.Tests.{eqb-true, ltb-false, not-false}
 use Rattle.lists.specs.Lists.{at}
 use Rattle.lists.proofs.Entries.{stretch-at}
 use Rattle.spectral.specs.Lsp.{Frequencies}
 use Rattle.outcome.specs.declared.Outcome.the-variants.{Lsf, PitchIndex, Gain}
 use Rattle.outcome.specs.Outcome.{placeOf, isAccepted}
 use Rattle.outcome.specs.Checks.{firstMet, firstOutside}
-use Rattle.outcome.proofs.Checks.{none-met, Placed, placed-append, none-placed, place-low}
-use Rattle.outcome.proofs.Ranges.{in-ranges, in-range-all, range-accepts, range-placed}
+use Rattle.outcome.proofs.Checks.{none-met, Placed, placed-append, none-placed, found-placed, place-low}
+use Rattle.outcome.proofs.Ranges.{in-ranges, in-range-all}
 use Rattle.state.specs.declared.State.{State}
 use Rattle.state.specs.State.{stateChecks}
 use Rattle.state.proofs.Checks.{state-placed}
-use Rattle.mr74.specs.Sheet.{lsfsOf, indicesOf, gainsOf}
+use Rattle.mr74.specs.Sheet.{lsfsOf}
 use Rattle.mr74.specs.Checks.{lengthChecks, lsfChecks, pitchChecks, gainChecks, sheetChecks, frameChecks, frameOutcome}
 
 -- ---- what a group has shown
@@ -32,7 +32,7 @@ lengths-accept count numbers room h =
 module _ (sheet : List ℤ) where
   pub lsfs-accept : 10 ≤ length sheet → isAccepted (firstMet (lsfChecks sheet)) ≡ true → Frequencies (lsfsOf sheet)
   lsfs-accept l h =
-      in-range-all 10 (pos 16384) (lsfsOf sheet) (length-take-le 10 sheet l) (range-accepts Lsf (lsfsOf sheet) (replicate 10 (pos 16384)) (none-met (lsfChecks sheet) tt h .0))
+      in-range-all 10 (pos 16384) (lsfsOf sheet) (length-take-le 10 sheet l) (ltb-false _ 10 (none-met (lsfChecks sheet) tt h .0))
 
   -- the numbers from a place of the sheet on
   ranges-at : (from n : ℕ) (limits : List ℤ) → n ≤ firstOutside (take n (drop from sheet)) limits → (k : ℕ) → k < n → (pos 0 ≤ℤ at sheet (from + k)) × (at sheet (from + k) ≤ℤ at limits k)
@@ -42,20 +42,20 @@ module _ (sheet : List ℤ) where
   pitchLimits = pos 255 ∷ pos 31 ∷ pos 255 ∷ pos 31 ∷ []
 
   pub pitch-accept : isAccepted (firstMet (pitchChecks sheet)) ≡ true → (k : ℕ) → k < 4 → (pos 0 ≤ℤ at sheet (10 + k)) × (at sheet (10 + k) ≤ℤ at pitchLimits k)
-  pitch-accept h = ranges-at 10 4 pitchLimits (range-accepts PitchIndex (indicesOf sheet) pitchLimits (none-met (pitchChecks sheet) tt h .0))
+  pitch-accept h = ranges-at 10 4 pitchLimits (ltb-false _ 4 (none-met (pitchChecks sheet) tt h .0))
 
   pub gains-accept : isAccepted (firstMet (gainChecks sheet)) ≡ true → (k : ℕ) → k < 8 → pos 0 ≤ℤ at sheet (14 + k)
-  gains-accept h k l = ranges-at 14 8 (replicate 8 (pos 32767)) (range-accepts Gain (gainsOf sheet) (replicate 8 (pos 32767)) (none-met (gainChecks sheet) tt h .0)) k l .0
+  gains-accept h k l = ranges-at 14 8 (replicate 8 (pos 32767)) (ltb-false _ 8 (none-met (gainChecks sheet) tt h .0)) k l .0
 
   -- ---- places
   lsfs-placed : Placed (lsfChecks sheet)
-  lsfs-placed = (range-placed Lsf (lsfsOf sheet) (replicate 10 (pos 16384)) (omega arith) (λ k. refl), tt)
+  lsfs-placed = (found-placed Lsf _ 10 (λ k h. omega arith), tt)
 
   pitch-placed : Placed (pitchChecks sheet)
-  pitch-placed = (range-placed PitchIndex (indicesOf sheet) pitchLimits (omega arith) (λ k. refl), tt)
+  pitch-placed = (found-placed PitchIndex _ 4 (λ k h. omega arith), tt)
 
   gains-placed : Placed (gainChecks sheet)
-  gains-placed = (range-placed Gain (gainsOf sheet) (replicate 8 (pos 32767)) (omega arith) (λ k. refl), tt)
+  gains-placed = (found-placed Gain _ 8 (λ k h. omega arith), tt)
 
   sheet-placed : Placed (sheetChecks sheet)
   sheet-placed = placed-append (lsfChecks sheet) (pitchChecks sheet ++ gainChecks sheet) lsfs-placed (placed-append (pitchChecks sheet) (gainChecks sheet) pitch-placed gains-placed)

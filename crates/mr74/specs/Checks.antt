@@ -7,7 +7,7 @@ use lib.IntN.{ℤ, pos}
 use lib.ListN.{length, replicate}
 use Rattle.outcome.specs.declared.Outcome.{Outcome}
 use Rattle.outcome.specs.declared.Outcome.the-variants.{SheetLength, Lsf, PitchIndex, Gain, OutputLength}
-use Rattle.outcome.specs.Checks.{Check, check, firstMet, rangeCheck}
+use Rattle.outcome.specs.Checks.{Check, check, placeCheck, firstMet, firstOutside}
 use Rattle.state.specs.declared.State.{State}
 use Rattle.state.specs.State.{stateChecks}
 use Rattle.mr74.specs.Sheet.{lsfsOf, indicesOf, gainsOf}
@@ -18,15 +18,15 @@ lengthChecks count numbers room = check (not (eqb numbers count)) SheetLength �
 
 -- 2: an LSF outside 0..=16384
 abbrev pub lsfChecks : List ℤ → List Check
-lsfChecks sheet = rangeCheck Lsf (lsfsOf sheet) (replicate 10 (pos 16384)) ∷ []
+lsfChecks sheet = placeCheck Lsf (firstOutside (lsfsOf sheet) (replicate 10 (pos 16384))) 10 ∷ []
 
 -- 3: a pitch index outside 0..=255 in subframes 0 and 2, outside 0..=31 in 1 and 3
 abbrev pub pitchChecks : List ℤ → List Check
-pitchChecks sheet = rangeCheck PitchIndex (indicesOf sheet) (pos 255 ∷ pos 31 ∷ pos 255 ∷ pos 31 ∷ []) ∷ []
+pitchChecks sheet = placeCheck PitchIndex (firstOutside (indicesOf sheet) (pos 255 ∷ pos 31 ∷ pos 255 ∷ pos 31 ∷ [])) 4 ∷ []
 
 -- 4: a negative gain
 abbrev pub gainChecks : List ℤ → List Check
-gainChecks sheet = rangeCheck Gain (gainsOf sheet) (replicate 8 (pos 32767)) ∷ []
+gainChecks sheet = placeCheck Gain (firstOutside (gainsOf sheet) (replicate 8 (pos 32767))) 8 ∷ []
 
 -- the numbers of a frame sheet
 abbrev pub sheetChecks : List ℤ → List Check

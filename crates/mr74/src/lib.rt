@@ -128,7 +128,7 @@ fn check_lengths(count: usize, numbers: usize, room: usize) -> Outcome
     Outcome::Accepted
 }
 
-// 2.
+// 2: an LSF outside 0..=16384.
 fn check_lsfs(sheet: &[i16]) -> Outcome
     requires { ⌜ 10 ≤ length (now sheet) ⌝ }
     ensures { λ r. ⌜ r ≡ firstMet (lsfChecks (now (sheet .entry))) ⌝ }
@@ -141,7 +141,7 @@ fn check_lsfs(sheet: &[i16]) -> Outcome
     Outcome::Accepted
 }
 
-// 3.
+// 3: a pitch index outside 0..=255 (subframes 0 and 2) or 0..=31.
 fn check_pitch(sheet: &[i16]) -> Outcome
     requires { ⌜ 14 ≤ length (now sheet) ⌝ }
     ensures { λ r. ⌜ r ≡ firstMet (pitchChecks (now (sheet .entry))) ⌝ }
@@ -154,7 +154,7 @@ fn check_pitch(sheet: &[i16]) -> Outcome
     Outcome::Accepted
 }
 
-// 4.
+// 4: a negative gain.
 fn check_gains(sheet: &[i16]) -> Outcome
     requires { ⌜ 22 ≤ length (now sheet) ⌝ }
     ensures { λ r. ⌜ r ≡ firstMet (gainChecks (now (sheet .entry))) ⌝ }

@@ -1,17 +1,17 @@
 -- Checks that are tested in order: one by one, and group after group. Assumes nothing.
-use mathlib.Core.Path.{_≡_, refl, sym, _∙_, subst}
-use mathlib.Core.Bool.{Bool, true, false, cond, not, _&&_}
+use mathlib.Core.Path.{_≡_, refl, ap, sym, _∙_, subst}
+use mathlib.Core.Bool.{Bool, true, false, cond, not}
 use mathlib.Core.List.{List, [], _∷_, _++_}
-use Prim.Native.Nat.{_<_}
+use Prim.Native.Nat.{ℕ, _≤_, _<_}
 use native.Mathlib.Omega.{arith}
-use lib.Dec.{T, eqb}
-use borrow.Author.Tests.{not-true, not-false, eqb-true}
+use lib.Dec.{T, eqb, ltb}
+use borrow.Author.Tests.{not-true, not-false, eqb-true, lt-ltb, le-ltb, ltb-true}
 use Rattle.lists.specs.Lists.{Every}
 use Rattle.lists.proofs.Entries.{every-append}
 use Rattle.outcome.specs.declared.Outcome.{Outcome}
 use Rattle.outcome.specs.declared.Outcome.the-variants.{Accepted}
 use Rattle.outcome.specs.Outcome.{placeOf, isAccepted}
-use Rattle.outcome.specs.Checks.{Check, check, firstMet}
+use Rattle.outcome.specs.Checks.{Check, check, placeCheck, firstMet}
 
 -- ---- a check
 module _ (m : Bool) (o : Outcome) (cs : List Check) where
@@ -26,6 +26,14 @@ module _ (m : Bool) (o : Outcome) (cs : List Check) where
 pub none-left : Accepted ≡ firstMet []
 unfolding firstMet
 none-left = refl
+
+-- the check by a search, of the place k that was found
+module _ (refusal : ℕ → Outcome) (place count : ℕ) {k : ℕ} where
+  pub place-met : (cs : List Check) → k ≡ place → k < count → refusal k ≡ firstMet (placeCheck refusal place count ∷ cs)
+  place-met cs e h = ap refusal e ∙ met (ltb place count) (refusal place) cs (lt-ltb place count (rw e at h))
+
+  pub place-unmet : (cs : List Check) → k ≡ place → count ≤ k → firstMet cs ≡ firstMet (placeCheck refusal place count ∷ cs)
+  place-unmet cs e h = unmet (ltb place count) (refusal place) cs (le-ltb place count (rw e at h))
 
 -- ---- groups of checks, one after another
 -- no refusal is an acceptance: computed, whatever the group
@@ -104,6 +112,10 @@ none-placed (c ∷ cs) h = go (eqb (placeOf (c .refusal)) 0) refl h (none-placed
     go : (b : Bool) → eqb (placeOf (c .refusal)) 0 ≡ b → T (cond b (unplaced cs) false) → (T (unplaced cs) → Placed cs) → Placed (c ∷ cs)
     go true e k rest = (λ m. omega (arith, eqb-true (placeOf (c .refusal)) 0 e), rest k)
     go false e k rest = absurd k
+
+-- by a search
+pub found-placed : (refusal : ℕ → Outcome) (place count : ℕ) → ((k : ℕ) → k < count → placeOf (refusal k) < 256) → placeCheck refusal place count .met ≡ true → placeOf (refusal place) < 256
+found-placed refusal place count f e = f place (ltb-true place count e)
 
 one-place : (m : Bool) (o x : Outcome) → (m ≡ true → placeOf o < 256) → placeOf x < 256 → placeOf (cond m o x) < 256
 one-place true o x f h = f refl

@@ -1,22 +1,18 @@
--- The search for the first number outside 0..=its limit, and the check by it. Assumes nothing.
+-- The search for the first number outside 0..=its limit. Assumes nothing.
 use Prim.Native.Nat.{ℕ, zero, suc, _+_, _≤_, _<_}
-use mathlib.Core.Path.{_≡_, refl, ap, _∙_}
+use mathlib.Core.Path.{_≡_, refl}
 use mathlib.Core.Bool.{Bool, true, false, cond, _||_}
 use mathlib.Core.List.{List, [], _∷_}
 use native.Mathlib.Numerals.{add-one}
 use native.Mathlib.Omega.{arith}
-use lib.Dec.{ltb}
 use lib.IntN.{ℤ, pos}
-use lib.ListN.{length, drop, drop-of-length-le, length-replicate, replicate, getD-replicate}
+use lib.ListN.{length, drop, drop-of-length-le, replicate}
 use lib.Seq.{drop-cons}
 use lib.Signed.{_≤ℤ_, ltZ}
-use borrow.Author.Tests.{not-true, lt-ltb, le-ltb, ltb-true, ltb-false}
+use borrow.Author.Tests.{not-true}
 use Rattle.lists.specs.Lists.{at, Every}
 use Rattle.basicop.proofs.Tests.{less-no, or-left, or-right}
-use Rattle.outcome.specs.declared.Outcome.{Outcome}
-use Rattle.outcome.specs.Outcome.{placeOf}
-use Rattle.outcome.specs.Checks.{Check, check, firstMet, within, firstOutside, rangeCheck}
-use Rattle.outcome.proofs.Checks.{met, unmet}
+use Rattle.outcome.specs.Checks.{within, firstOutside}
 
 -- ---- a number against its limit
 pub below : (limit x : ℤ) → ltZ x (pos 0) ≡ true → within limit x ≡ false
@@ -79,17 +75,3 @@ in-range-all zero limit (x ∷ xs) e h = absurd (omega (arith, e))
 in-range-all (suc n) limit (x ∷ xs) e h =
     let r = one-more (within limit x) (firstOutside xs (replicate n limit)) n h in
     (in-range limit x (r .0), in-range-all n limit xs (omega (arith, e)) (r .1))
-
--- ---- the check by it
-module _ (refusal : ℕ → Outcome) (xs limits : List ℤ) where
-  pub range-met : {k : ℕ} (cs : List Check) → k ≡ firstOutside xs limits → k < length limits → refusal k ≡ firstMet (rangeCheck refusal xs limits ∷ cs)
-  range-met cs e h = ap refusal e ∙ met (ltb (firstOutside xs limits) (length limits)) (refusal (firstOutside xs limits)) cs (lt-ltb _ _ (rw e at h))
-
-  pub range-unmet : {k : ℕ} (cs : List Check) → k ≡ firstOutside xs limits → length limits ≤ k → firstMet cs ≡ firstMet (rangeCheck refusal xs limits ∷ cs)
-  range-unmet cs e h = unmet (ltb (firstOutside xs limits) (length limits)) (refusal (firstOutside xs limits)) cs (le-ltb _ _ (rw e at h))
-
-  pub range-accepts : rangeCheck refusal xs limits .met ≡ false → length limits ≤ firstOutside xs limits
-  range-accepts e = ltb-false (firstOutside xs limits) (length limits) e
-
-  pub range-placed : length limits ≤ 256 → ((k : ℕ) → placeOf (refusal k) ≡ k) → rangeCheck refusal xs limits .met ≡ true → placeOf (rangeCheck refusal xs limits .refusal) < 256
-  range-placed l p e = rw (p (firstOutside xs limits)) (omega (arith, ltb-true (firstOutside xs limits) (length limits) e))

@@ -4,7 +4,6 @@ use mathlib.Core.List.{List, [], _∷_}
 use Prim.Native.Nat.{ℕ, suc}
 use lib.Dec.{ltb}
 use lib.IntN.{ℤ, pos}
-use lib.ListN.{length}
 use lib.Signed.{ltZ}
 use Rattle.outcome.specs.declared.Outcome.{Outcome}
 use Rattle.outcome.specs.declared.Outcome.the-variants.{Accepted}
@@ -16,6 +15,10 @@ pub record Check : Type 0 where
 
 abbrev pub check : Bool → Outcome → Check
 check met refusal = record { met = met; refusal = refusal }
+
+-- the check by a search that gives the place of the first fault, and `count` where there is none
+abbrev pub placeCheck : (ℕ → Outcome) → ℕ → ℕ → Check
+placeCheck refusal place count = check (ltb place count) (refusal place)
 
 -- the first check that is met turns the call back. Groups of checks are joined by `++`
 unfoldable pub firstMet : List Check → Outcome
@@ -32,7 +35,3 @@ unfoldable pub firstOutside : List ℤ → List ℤ → ℕ
 firstOutside [] limits = 0
 firstOutside (number ∷ numbers) [] = 0
 firstOutside (number ∷ numbers) (limit ∷ limits) = cond (within limit number) (suc (firstOutside numbers limits)) 0
-
--- the check that every number lies in 0..=its limit, whose refusal has the place of the first that does not
-abbrev pub rangeCheck : (ℕ → Outcome) → List ℤ → List ℤ → Check
-rangeCheck refusal numbers limits = check (ltb (firstOutside numbers limits) (length limits)) (refusal (firstOutside numbers limits))

@@ -39,4 +39,3 @@ placeOf SmoothedGain = 0
 
 abbrev pub isAccepted : Outcome → Bool
 isAccepted o = eqb (numberOf o) 0
-

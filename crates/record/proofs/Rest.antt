@@ -10,7 +10,7 @@ use Rattle.outcome.specs.Outcome.{isAccepted}
 use Rattle.outcome.specs.Checks.{firstMet}
 use Rattle.state.specs.Layout.{numbersOf}
 use Rattle.state.proofs.Numbers.{numbers-of-state}
-use Rattle.coding.specs.Bytes.{words, bytesOf, Bytes}
+use Rattle.coding.specs.Bytes.{bytesOf, Bytes}
 use Rattle.record.specs.Record.{endOf, numbersIn, byteChecks, recordOutcome, readCall, encoded}
 use Rattle.coding.proofs.Bytes.{bytes-back}
 use Rattle.coding.proofs.Laid.{bytes-length}

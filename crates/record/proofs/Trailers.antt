@@ -1,19 +1,19 @@
 -- The last 8 bytes of a record. Assumes nothing.
 use mathlib.Core.Path.{_≡_, refl, ap, sym, _∙_, subst}
-use mathlib.Core.Bool.{Bool, true, false, cond, not, _&&_}
+use mathlib.Core.Bool.{Bool, true, false, cond, _&&_}
 use mathlib.Core.List.{List, [], _∷_}
-use Prim.Native.Nat.{ℕ, _-_, _≤_, _<_}
+use Prim.Native.Nat.{ℕ, _-_}
 use native.Mathlib.Omega.{arith}
 use lib.Dec.{T, eqb}
 use lib.ListN.{length, take, drop, getD, length-drop}
-use lib.Seq.{take-all, getD-drop}
+use lib.Seq.{take-all}
 use borrow.Author.Tests.{eq-eqb, ne-eqb, eqb-true, not-false}
 use Rattle.outcome.specs.declared.Outcome.the-variants.{Accepted, Tag, Version, Layout}
 use Rattle.outcome.specs.Outcome.{isAccepted}
 use Rattle.outcome.specs.Checks.{firstMet}
 use Rattle.outcome.proofs.Checks.{none-met}
 use Rattle.coding.specs.Bytes.{unsigned, bytesOf, Bytes}
-use Rattle.record.specs.Record.{Trailer, current, versions, trailerOf, fieldAt, tagged, trailerChecks, trailerBytes}
+use Rattle.record.specs.Record.{Trailer, current, versions, trailerOf, fieldAt, trailerChecks, trailerBytes}
 
 -- ---- 12 to 14, test by test
 module _ (t : List ℕ) where

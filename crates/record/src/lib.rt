@@ -29,7 +29,7 @@ pub struct Reading<'a> {
 }
 
 // ---- the reader
-// 11.
+// 11: under 8 bytes.
 fn check_size(size: usize) -> Outcome
     ensures { λ r. ⌜ r ≡ firstMet (sizeChecks size) ⌝ }
 {
@@ -39,7 +39,7 @@ fn check_size(size: usize) -> Outcome
     Outcome::Accepted
 }
 
-// 12 to 14, of the last 8 bytes.
+// 12 to 14: tag, version and layout, of the last 8 bytes.
 fn check_trailer(t: &[u8]) -> Outcome
     requires { ⌜ length (now t) ≡ 8 ⌝ }
     ensures { λ r. ⌜ r ≡ firstMet (trailerChecks (now (t .entry))) ⌝ }
@@ -62,7 +62,7 @@ fn check_trailer(t: &[u8]) -> Outcome
     Outcome::Accepted
 }
 
-// 15, of the count of bytes before the trailer.
+// 15: fewer bytes before the trailer than the version's distance.
 fn check_body(before: usize, distance: usize) -> Outcome
     ensures { λ r. ⌜ r ≡ firstMet (bodyChecks before distance) ⌝ }
 {
@@ -172,7 +172,7 @@ fn write_record(state: State, out: &mut [u8])
     write_trailer(&mut out[394..402]);
 }
 
-// 5.
+// 5: the lent bytes are not as many as a record's.
 fn check_room(room: usize) -> Outcome
     ensures { λ r. ⌜ r ≡ firstMet (roomChecks room) ⌝ }
 {

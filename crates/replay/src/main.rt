@@ -79,7 +79,8 @@ fn lsp(b: &[u8]) -> bool {
         return false;
     }
     let lsf = ten(b, 0);
-    if spectral::first_outside(lsf) != 10 {
+    let limits = [16384i16; 10];
+    if outcome::first_outside(&lsf, &limits) != 10 {
         return false;
     }
     let r = spectral::lsf_to_lsp(lsf);

@@ -1,5 +1,5 @@
 -- Demand 3 speaks of something: from an accepted state a call that is accepted, with subframes that are retried and subframes that are not, and that
--- divides at every place where the definition can. And calls that each row of the frame order turns back.
+-- divides at every place where the definition can. And calls that each check of the frame order turns back.
 -- The theorems are `example`, `frame-order` and `places` in proofs/Examples.antt: each value is computed from the definition.
 use mathlib.Core.Path.{_≡_}
 use mathlib.Core.Bool.{Bool, true, false}
@@ -99,7 +99,7 @@ refusal sheet numbers room =
 abbrev pub zerosThen : ℕ → ℕ → List ℤ
 zerosThen n m = replicate n (pos 0) ++ replicate (m - n) (minus 1)
 
--- each call meets its row and all those after it in the frame order 1, 5, 2, 3, 4, 16, 17; the last meets none
+-- each call meets its check and all those after it in the frame order 1, 5, 2, 3, 4, 16, 17; the last meets none
 unfoldable pub ordered : List Refusal
 ordered =
     refusal (zerosThen 0 181) (zerosThen 0 197) 159
