@@ -23,7 +23,7 @@ use Rattle.excitation.proofs.Ranges.{sharpened-length, sharpening-range, feedba
 use Rattle.energy.proofs.Tests.{either}
 use Rattle.energy.proofs.Divisors.{agc2-divisors}
 use Rattle.energy.proofs.Results.{agc2-length}
-use Rattle.synthesis.specs.Synthesis.{overflowed, overflowedAt, newest}
+use Rattle.synthesis.specs.Synthesis.{overflowed, overflowedAt}
 use Rattle.synthesis.proofs.Samples.{overflowed-by-at, samples-words, newest-words}
 use Rattle.decoder.specs.declared.Core.{Core}
 use Rattle.decoder.specs.Inputs.{SubframeInputs, FrameInputs, UsableSubframe, Usable}

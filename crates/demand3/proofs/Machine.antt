@@ -1,7 +1,7 @@
 -- A subframe of the definition beside the machine of whole numbers. Assumes nothing.
 use Prim.Native.Nat.{ℕ, zero, suc, _-_}
 use mathlib.Core.Path.{_≡_, refl, sym, ap, _∙_, fun-ext, subst}
-use mathlib.Core.Bool.{Bool, true, false, cond}
+use mathlib.Core.Bool.{Bool, true, false}
 use mathlib.Core.List.{List, [], _∷_, map}
 use lib.IntN.{ℤ, *ℤ-comm}
 use lib.ListN.{length, drop}
@@ -18,7 +18,7 @@ use Rattle.decoder.specs.Subframe.{Fed, Subframe, synthesised}
 use Rattle.decoder.specs.Core.{Turn, turn, ran, coreAfter, rowList, opened, decoded}
 use Rattle.decoder.proofs.Retry.{retry}
 use Rattle.decoder.proofs.Results.{Held, turn-result}
-use Rattle.demand3.specs.Measure.{Machine, Measured, heldSum, heldSample, heldSamples, unretried, again, measured, leaves, leavesAll}
+use Rattle.demand3.specs.Measure.{Machine, heldSum, heldSample, heldSamples, measured, leaves, leavesAll}
 use Rattle.demand3.specs.Demand3.{AsMeasured, Beside}
 
 -- ---- the machine's clamped steps are those of Syn_filt
@@ -42,24 +42,11 @@ module _ (f : Fed) (m : Machine) (l : length (m .history) ≡ 10) where
   abbrev d : Subframe
   d = synthesised f (m .history) (m .past)
 
-  measures : (b : Bool) → flag ≡ b → measured f m ≡ cond b (again f m) (unretried f m)
-  unfolding measured
-  measures b e = rw e
-
   -- its samples and its past are the definition's
-  samples-go : (b : Bool) → flag ≡ b → measured f m .samples ≡ d .samples
-  samples-go true e = ap (λ (r : Measured). r .samples) (measures true e) ∙ held-samples (f .row) _ (m .history) ∙ sym (retry f (m .history) (m .past) l .again-samples e)
-  samples-go false e = ap (λ (r : Measured). r .samples) (measures false e) ∙ sym (retry f (m .history) (m .past) l .kept-samples e)
-
-  past-go : (b : Bool) → flag ≡ b → measured f m .past ≡ d .past
-  past-go true e = ap (λ (r : Measured). r .past) (measures true e) ∙ sym (retry f (m .history) (m .past) l .again-past e)
-  past-go false e = ap (λ (r : Measured). r .past) (measures false e) ∙ sym (retry f (m .history) (m .past) l .kept-past e)
-
-  measured-samples : measured f m .samples ≡ d .samples
-  measured-samples = samples-go flag refl
-
-  measured-past : measured f m .past ≡ d .past
-  measured-past = past-go flag refl
+  as-made : (b : Bool) → flag ≡ b → (measured f m .samples ≡ d .samples) × (measured f m .past ≡ d .past)
+  unfolding measured
+  as-made true e = let r = retry f (m .history) (m .past) l in rw e (held-samples (f .row) _ (m .history) ∙ sym (r .again-samples e), sym (r .again-past e))
+  as-made false e = let r = retry f (m .history) (m .past) l in rw e (sym (r .kept-samples e), sym (r .kept-past e))
 
 -- ---- a subframe step
 abbrev machineOf : Core → Machine
@@ -89,11 +76,9 @@ module _ (c : Core) (row : List ℤ) (p : SubframeInputs) (h : Held c) (u : Usab
   turn-leaves : leaves (t .fed) (machineOf c) ≡ machineOf (t .next)
   unfolding turn
   turn-leaves =
+      let m = as-made (t .fed) (machineOf c) (h .history .count) _ refl in
       let n : length (t .made .samples) - 10 ≡ 30 = rw (turn-result c row p h u .samples .count) refl in
-      λ i. record {
-        history = (ap (drop 30) (measured-samples (t .fed) (machineOf c) (h .history .count)) ∙ ap (λ (k : ℕ). drop k (t .made .samples)) (sym n)) i;
-        past = measured-past (t .fed) (machineOf c) (h .history .count) i;
-      }
+      λ i. record { history = (ap (drop 30) (m .0) ∙ ap (λ (k : ℕ). drop k (t .made .samples)) (sym n)) i; past = m .1 i }
 
 -- ---- the subframes of a frame
 ran-beside : (c : Core) (rows : List (List ℤ)) (ps : List SubframeInputs) → Held c → Every UsableSubframe ps → Every (λ (row : List ℤ). length row ≡ 11) rows → Beside (machineOf c) (ran c rows ps)
