@@ -2,9 +2,8 @@
 use mathlib.Core.Path.{_≡_, refl, sym, ap, _∙_, subst}
 use mathlib.Core.Bool.{Bool, true, false}
 use mathlib.Core.List.{List}
-use lib.IntN.{ℤ, pos}
+use lib.IntN.{ℤ}
 use lib.ListN.{length, getD}
-use lib.Signed.{_≤ℤ_}
 use Rattle.lists.specs.Lists.{Every}
 use Rattle.decoder.specs.Inputs.{FrameInputs, Usable}
 use Rattle.decoder.proofs.Retry.{Small}
@@ -20,7 +19,7 @@ use Rattle.mr74.specs.Frame.{Trace, acceptedTrace, refusedTrace, traceBy, frame
 use Rattle.mr74.proofs.Passed.{passed}
 use Rattle.mr74.proofs.Usable.{usable}
 use Rattle.calls.specs.Calls.{Call, Frame, traceOf, nextState, accepted}
-use Rattle.calls.proofs.Frames.{frame-sharpening, frame-gain, frame-small, frame-well-formed, frame-passes}
+use Rattle.calls.proofs.Frames.{Left, FrameResult, frame-result}
 
 -- by cases
 pub decided : {P : Type 0} (b : Bool) → (b ≡ true → P) → (b ≡ false → P) → P
@@ -76,32 +75,21 @@ abbrev pub SmallPast : State → Type 0
 SmallPast s = (length (s .core .past) ≡ 154) × Every Small (s .core .past)
 
 module _ (s : State) (c : Call) (w : WellFormed s) (e : accepted (traceOf s c) ≡ true) where
-  abbrev a : Accepts s c
-  a = accepts s c e
+  result : FrameResult (accepts s c e .inputs) s
+  result = let a = accepts s c e in frame-result (a .inputs) s (a .usable) w (a .state)
 
-  -- of its frame
-  left : (P : State → Type 0) → P (acceptedTrace (a .outcome) (a .inputs) s .next) → P (nextState s c)
-  left P = subst (λ (t : Trace). P (t .next)) (sym (a .trace))
-
-  pub after-sharpening : (pos 0 ≤ℤ nextState s c .core .sharpening .0) × (nextState s c .core .sharpening .0 ≤ℤ pos 13017)
-  after-sharpening = left (λ (t : State). (pos 0 ≤ℤ t .core .sharpening .0) × (t .core .sharpening .0 ≤ℤ pos 13017)) (frame-sharpening (a .inputs) s (a .usable) w (a .state))
-
-  -- at most 32748, where demand 3 asks for 32765
-  pub after-gain : (pos 0 ≤ℤ nextState s c .post .gain .«previous_gain») × (nextState s c .post .gain .«previous_gain» ≤ℤ pos 32748)
-  after-gain = left (λ (t : State). (pos 0 ≤ℤ t .post .gain .«previous_gain») × (t .post .gain .«previous_gain» ≤ℤ pos 32748)) (frame-gain (a .inputs) s (a .usable) w (a .state))
+  pub next-left : Left (nextState s c)
+  next-left = subst (λ (t : Trace). Left (t .next)) (sym (accepts s c e .trace)) (result .left)
 
   -- the state's checks accept it
-  pub after-accepted : stateOutcome (nextState s c) ≡ Accepted
-  after-accepted = left (λ (t : State). stateOutcome t ≡ Accepted) (kept-accepted _ (frame-passes (a .inputs) s (a .usable) w (a .state)))
-
-  after-well-formed : WellFormed (nextState s c)
-  after-well-formed = left WellFormed (frame-well-formed (a .inputs) s (a .usable) w (a .state))
+  pub next-accepted : stateOutcome (nextState s c) ≡ Accepted
+  next-accepted = kept-accepted (nextState s c) (next-left .passes)
 
   -- after a retried last subframe
-  pub after-retry : getD (traceOf s c .flags) 3 false ≡ true → SmallPast (nextState s c)
-  after-retry =
-      subst (λ (t : Trace). getD (t .flags) 3 false ≡ true → SmallPast (t .next)) (sym (a .trace))
-      (λ f. (frame-well-formed (a .inputs) s (a .usable) w (a .state) .past .count, frame-small (a .inputs) s (a .usable) w (a .state) f))
+  pub next-small : getD (traceOf s c .flags) 3 false ≡ true → SmallPast (nextState s c)
+  next-small =
+      subst (λ (t : Trace). getD (t .flags) 3 false ≡ true → SmallPast (t .next)) (sym (accepts s c e .trace))
+      (λ f. (result .left .well-formed .past .count, result .core .small f))
 
 pub next-well-formed : (s : State) (c : Call) → WellFormed s → WellFormed (nextState s c)
-next-well-formed s c w = decided (accepted (traceOf s c)) (after-well-formed s c w) (λ e. subst WellFormed (sym (next-refused s c e)) w)
+next-well-formed s c w = decided (accepted (traceOf s c)) (λ e. next-left s c w e .well-formed) (λ e. subst WellFormed (sym (next-refused s c e)) w)

@@ -8,7 +8,7 @@ use Rattle.outcome.specs.declared.Outcome.the-variants.{Accepted}
 use Rattle.state.specs.State.{WellFormed, stateOutcome}
 use Rattle.mr74.specs.Frame.{Trace}
 use Rattle.calls.specs.Calls.{Call, traceOf, nextState, runCalls, stateAfter, accepted, anyAccepted, latestFlag}
-use Rattle.calls.proofs.Calls.{decided, next-refused, next-well-formed, after-accepted, SmallPast, after-retry}
+use Rattle.calls.proofs.Calls.{decided, next-refused, next-well-formed, next-accepted, SmallPast, next-small}
 
 -- ---- one list after another
 pub after-append : (cs ds : List Call) (s : State) → stateAfter s (cs ++ ds) ≡ stateAfter (stateAfter s cs) ds
@@ -46,13 +46,13 @@ pub list-well-formed : (cs : List Call) (s : State) → WellFormed s → WellFor
 list-well-formed cs s w = always WellFormed (λ s c w e. next-well-formed s c w) cs s w w
 
 pub list-accepted : (cs : List Call) (s : State) → WellFormed s → stateOutcome s ≡ Accepted → stateOutcome (stateAfter s cs) ≡ Accepted
-list-accepted = always (λ (s : State). stateOutcome s ≡ Accepted) after-accepted
+list-accepted = always (λ (s : State). stateOutcome s ≡ Accepted) next-accepted
 
 -- ---- after the latest accepted call, its last subframe retried
 latest-step : (s : State) (c : Call) (b : Bool) → WellFormed s → (b ≡ true → SmallPast s) → cond (accepted (traceOf s c)) (getD (traceOf s c .flags) 3 false) b ≡ true → SmallPast (nextState s c)
 latest-step s c b w h e =
     decided (accepted (traceOf s c))
-    (λ a. after-retry s c w a (sym (ap (λ (t : Bool). cond t (getD (traceOf s c .flags) 3 false) b) a) ∙ e))
+    (λ a. next-small s c w a (sym (ap (λ (t : Bool). cond t (getD (traceOf s c .flags) 3 false) b) a) ∙ e))
     (λ a. subst SmallPast (sym (next-refused s c a)) (h (sym (ap (λ (t : Bool). cond t (getD (traceOf s c .flags) 3 false) b) a) ∙ e)))
 
 pub latest : (cs : List Call) (s : State) (b : Bool) → WellFormed s → (b ≡ true → SmallPast s) → latestFlag b (runCalls s cs) ≡ true → SmallPast (stateAfter s cs)

@@ -23,7 +23,7 @@ use Rattle.excitation.proofs.Ranges.{sharpened-length, sharpening-range, feedba
 use Rattle.energy.proofs.Tests.{either}
 use Rattle.energy.proofs.Divisors.{agc2-divisors}
 use Rattle.energy.proofs.Results.{agc2-length}
-use Rattle.synthesis.specs.Synthesis.{overflowed, overflowedAt, newest}
+use Rattle.synthesis.specs.Synthesis.{overflowed, overflowedAt}
 use Rattle.synthesis.proofs.Samples.{overflowed-by-at, samples-words, newest-words}
 use Rattle.decoder.specs.declared.Core.{Core}
 use Rattle.decoder.specs.Inputs.{SubframeInputs, FrameInputs, UsableSubframe, Usable}
@@ -83,111 +83,93 @@ pub record Held (c : Core) : Type 0 where
   pub past : Words 154 (c .past)
   pub history : Words 10 (c .history)
 
+-- the state that it leaves, of the LSPs that the frame carries on
+pub record Next (lsps : List ℤ) (c : Core) : Type 0 where
+  pub held : Held c
+  pub lsp : c .lsp ≡ lsps
+  pub sharpening : (pos 0 ≤ℤ c .sharpening .0) × (c .sharpening .0 ≤ℤ pos 13017)
+
+pub record Result (lsps : List ℤ) (t : Turn) : Type 0 where
+  pub forty : Forty (t .fed)
+  pub samples : Words 40 (t .made .samples)
+  pub flag : t .made .retried ≡ ltb (t .made .place) 40
+  pub divisors : Every (Divides 16384) (t .quotients)
+  pub next : Next lsps (t .next)
+  -- after a retry every number of the past lies in -8192..=8191
+  pub small : t .made .retried ≡ true → Every Small (t .next .past)
+
 module _ (c : Core) (row : List ℤ) (p : SubframeInputs) where
-  pub turn-row : turn c row p .fed .row ≡ row
-  unfolding turn
-  turn-row = refl
-
-  pub turn-made : turn c row p .made ≡ synthesised (turn c row p .fed) (c .history) (c .past)
-  unfolding turn
-  turn-made = refl
-
-  pub turn-lsp : turn c row p .next .lsp ≡ c .lsp
-  unfolding turn
-  turn-lsp = refl
-
-  pub turn-past : turn c row p .next .past ≡ turn c row p .made .past
-  unfolding turn
-  turn-past = refl
-
-  pub turn-history : turn c row p .next .history ≡ newest 10 (turn c row p .made .samples)
-  unfolding turn
-  turn-history = refl
-
-  pub turn-sharpening : pos 0 ≤ℤ p .pitch → (pos 0 ≤ℤ turn c row p .next .sharpening .0) × (turn c row p .next .sharpening .0 ≤ℤ pos 13017)
-  unfolding turn
-  turn-sharpening h = sharpening-range (p .pitch) h
-
   pub turn-divisors : Every (Divides 16384) (turn c row p .quotients)
   unfolding turn excited
   turn-divisors =
       let v = predicted (c .past) (p .lag) in
-      let code = sharpened (p .innovation) (p .lag .samples) (c .sharpening .0) in
-      let exc = feedback v (p .pitch) code (p .code) in
+      let exc = feedback v (p .pitch) (sharpened (p .innovation) (p .lag .samples) (c .sharpening .0)) (p .code) in
       every-append (Divides 16384) (firstExcitation v (p .pitch) exc .quotients) [] (first-divisors v (p .pitch) exc) tt
 
-  pub turn-forty : length (c .past) ≡ 154 → Forty (turn c row p .fed)
+  turn-forty : length (c .past) ≡ 154 → Forty (turn c row p .fed)
   unfolding turn excited feedback
   turn-forty h =
       let v = predicted (c .past) (p .lag) in
       let code = sharpened (p .innovation) (p .lag .samples) (c .sharpening .0) in
-      let exc = feedback v (p .pitch) code (p .code) in
       let n = predicted-length (c .past) (p .lag) h in
       let k = sharpened-length (p .innovation) (p .lag .samples) (c .sharpening .0) in
       let l = feedback-length v (p .pitch) code (p .code) (n ∙ sym k) in
       record {
         feedback = words-pairwise (feedbackAt (p .pitch) (p .code)) (λ x y. round-fits _) v code n k;
-        excitation = first-length v (p .pitch) exc l ∙ l ∙ n;
+        excitation = first-length v (p .pitch) (feedback v (p .pitch) code (p .code)) l ∙ l ∙ n;
       }
 
-  pub turn-makes : Held c → Made (turn c row p .made)
-  turn-makes h = rw turn-made (made (turn c row p .fed) (c .history) (c .past) (turn-forty (h .past .count)) (h .history .count) (h .past))
-
-  pub turn-held : Held c → Held (turn c row p .next)
-  turn-held h =
-      let m = turn-makes h in
-      record { past = rw turn-past (m .past); history = rw turn-history (newest-words (turn c row p .made .samples) (m .samples)) }
-
-  -- after a retry every number of the past lies in -8192..=8191
-  pub turn-small : Held c → turn c row p .made .retried ≡ true → Every Small (turn c row p .next .past)
-  turn-small h e =
+  pub turn-result : Held c → UsableSubframe p → Result (c .lsp) (turn c row p)
+  unfolding turn
+  turn-result h u =
+      let t = turn c row p in
       let k = turn-forty (h .past .count) in
-      let r = retry (turn c row p .fed) (c .history) (c .past) (h .history .count) in
-      every-at Small (turn c row p .next .past) (rw (turn-past, turn-made) (r .again-small (sym (r .flag) ∙ rw turn-made at e) (h .past .fit) (k .feedback .fit)))
-
-  pub turn-flag : length (c .past) ≡ 154 → turn c row p .made .retried ≡ ltb (turn c row p .made .place) 40
-  turn-flag h = rw turn-made (made-flag (turn c row p .fed) (c .history) (c .past) (turn-forty h .excitation))
+      let m = made (t .fed) (c .history) (c .past) k (h .history .count) (h .past) in
+      let r = retry (t .fed) (c .history) (c .past) (h .history .count) in
+      record {
+        forty = k;
+        samples = m .samples;
+        flag = made-flag (t .fed) (c .history) (c .past) (k .excitation);
+        divisors = turn-divisors;
+        next = record {
+          held = record { past = m .past; history = newest-words (t .made .samples) (m .samples) };
+          lsp = refl;
+          sharpening = sharpening-range (p .pitch) (u .pitch);
+        };
+        small = λ e. every-at Small (t .next .past) (r .again-small (sym (r .flag) ∙ e) (h .past .fit) (k .feedback .fit));
+      }
 
 -- ---- the subframes of a frame
--- what a subframe gives, of the LSPs that the frame carries on
-pub record Result (lsps : List ℤ) (t : Turn) : Type 0 where
-  pub samples : Words 40 (t .made .samples)
-  pub flag : t .made .retried ≡ ltb (t .made .place) 40
-  pub divisors : Every (Divides 16384) (t .quotients)
-  pub held : Held (t .next)
-  pub lsp : t .next .lsp ≡ lsps
-  pub sharpening : (pos 0 ≤ℤ t .next .sharpening .0) × (t .next .sharpening .0 ≤ℤ pos 13017)
-  pub small : t .made .retried ≡ true → Every Small (t .next .past)
-
-pub results : (c : Core) (rows : List (List ℤ)) (ps : List SubframeInputs) → Held c → Every UsableSubframe ps → Every (Result (c .lsp)) (ran c rows ps)
+results : (c : Core) (rows : List (List ℤ)) (ps : List SubframeInputs) (lsps : List ℤ) → c .lsp ≡ lsps → Held c → Every UsableSubframe ps → Every (Result lsps) (ran c rows ps)
 unfolding ran
-results c [] ps h u = tt
-results c (row ∷ rows) [] h u = tt
-results c (row ∷ rows) (p ∷ ps) h u = (
-  record {
-    samples = turn-makes c row p h .samples;
-    flag = turn-flag c row p (h .past .count);
-    divisors = turn-divisors c row p;
-    held = turn-held c row p h;
-    lsp = turn-lsp c row p;
-    sharpening = turn-sharpening c row p (u .0 .pitch);
-    small = turn-small c row p h;
-  },
-  subst (λ (lsps : List ℤ). Every (Result lsps) (ran (turn c row p .next) rows ps)) (turn-lsp c row p) (results (turn c row p .next) rows ps (turn-held c row p h) (u .1)),
-)
+results c [] ps lsps e h u = tt
+results c (row ∷ rows) [] lsps e h u = tt
+results c (row ∷ rows) (p ∷ ps) lsps e h u =
+    let r = subst (λ (l : List ℤ). Result l (turn c row p)) e (turn-result c row p h (u .0)) in
+    (r, results (turn c row p .next) rows ps lsps (r .next .lsp) (r .next .held) (u .1))
 
 -- each has its row
-pub ran-rows : (c : Core) (rows : List (List ℤ)) (ps : List SubframeInputs) → length rows ≡ length ps → map (λ (t : Turn). t .fed .row) (ran c rows ps) ≡ rows
-unfolding ran
+ran-rows : (c : Core) (rows : List (List ℤ)) (ps : List SubframeInputs) → length rows ≡ length ps → map (λ (t : Turn). t .fed .row) (ran c rows ps) ≡ rows
+unfolding ran turn
 ran-rows c [] ps e = refl
 ran-rows c (row ∷ rows) [] e = absurd (omega (arith, e))
-ran-rows c (row ∷ rows) (p ∷ ps) e = ap₂ (λ (x : List ℤ) (xs : List (List ℤ)). x ∷ xs) (turn-row c row p) (ran-rows (turn c row p .next) rows ps (omega (arith, e)))
+ran-rows c (row ∷ rows) (p ∷ ps) e = ap (λ (xs : List (List ℤ)). row ∷ xs) (ran-rows (turn c row p .next) rows ps (omega (arith, e)))
 
--- ---- of all together
--- what holds of the state before and is left by each is left by the last
-after-each : (P : Core → Type 0) (c : Core) (ts : List Turn) → P c → Every (λ (t : Turn). P (t .next)) ts → P (coreAfter c ts)
-after-each P c [] h e = h
-after-each P c (t ∷ ts) h e = after-each P (t .next) ts (e .0) (e .1)
+-- the last of n + 1, of which Q holds as of each
+record Last (Q : Turn → Type 0) (c : Core) (ts : List Turn) (n : ℕ) : Type 0 where
+  turn : Turn
+  holds : Q turn
+  next : coreAfter c ts ≡ turn .next
+  flag : getD (flagsOf ts) n false ≡ turn .made .retried
+
+last : (Q : Turn → Type 0) (c : Core) (ts : List Turn) (n : ℕ) → length ts ≡ suc n → Every Q ts → Last Q c ts n
+last Q c [] n l e = absurd (omega (arith, l))
+last Q c (t ∷ []) zero l e = record { turn = t; holds = e .0; next = refl; flag = refl }
+last Q c (t ∷ []) (suc n) l e = absurd (omega (arith, l))
+last Q c (t ∷ u ∷ ts) zero l e = absurd (omega (arith, l))
+last Q c (t ∷ u ∷ ts) (suc n) l e =
+    let r = last Q (t .next) (u ∷ ts) n (omega (arith, l)) (e .1) in
+    record { turn = r .turn; holds = r .holds; next = r .next; flag = r .flag }
 
 every-flat : {A B : Type 0} (P : B → Type 0) (f : A → List B) (xs : List A) → Every (λ (x : A). Every P (f x)) xs → Every P (flatMap f xs)
 unfolding flatMap
@@ -203,53 +185,31 @@ flags-by-places : (ts : List Turn) → Every (λ (t : Turn). t .made .retried �
 flags-by-places [] e = refl
 flags-by-places (t ∷ ts) e = ap₂ (λ (b : Bool) (bs : List Bool). b ∷ bs) (sym (e .0)) (flags-by-places ts (e .1))
 
--- what each leaves where it was retried is left where the last one was
-after-last : (P : Core → Type 0) (c : Core) (ts : List Turn) (n : ℕ) → length ts ≡ suc n → Every (λ (t : Turn). t .made .retried ≡ true → P (t .next)) ts → getD (flagsOf ts) n false ≡ true → P (coreAfter c ts)
-after-last P c [] n l e h = absurd (omega (arith, l))
-after-last P c (t ∷ []) zero l e h = e .0 h
-after-last P c (t ∷ []) (suc n) l e h = absurd (omega (arith, l))
-after-last P c (t ∷ u ∷ ts) zero l e h = absurd (omega (arith, l))
-after-last P c (t ∷ u ∷ ts) (suc n) l e h = after-last P (t .next) (u ∷ ts) n (omega (arith, l)) (e .1) h
-
 -- ---- the core of a frame
-module _ (c : Core) (f : FrameInputs) (u : Usable f) where
-  abbrev d : Decoded
-  d = decoded c f
+pub record CoreResult (lsps : List ℤ) (d : Decoded) : Type 0 where
+  pub rows : map (λ (t : Turn). t .fed .row) (d .turns) ≡ rowList (d .rows)
+  pub four : length (d .turns) ≡ 4
+  pub samples : Words 160 (samplesOf (d .turns))
+  pub flags : map (λ (place : ℕ). ltb place 40) (placesOf (d .turns)) ≡ flagsOf (d .turns)
+  pub divisors : Every (Divides 16384) (quotientsOf (d .turns))
+  pub next : Next lsps (d .next)
+  -- after a retried last subframe
+  pub small : getD (flagsOf (d .turns)) 3 false ≡ true → Every Small (d .next .past)
 
-  pub core-rows : map (λ (t : Turn). t .fed .row) (d .turns) ≡ rowList (d .rows)
-  unfolding decoded
-  core-rows = ran-rows (opened c f) (rowList (d .rows)) (f .subframes) (sym (u .four))
-
-  pub core-count : length (d .turns) ≡ 4
-  core-count = sym (length-map (d .turns) (λ (t : Turn). t .fed .row)) ∙ ap length core-rows
-
-  module _ (h : Held c) where
-    core-results : Every (Result (lspsOf (f .lsfs))) (d .turns)
-    unfolding decoded
-    core-results = results (opened c f) (rowList (d .rows)) (f .subframes) (record { past = h .past; history = h .history }) (u .subframes)
-
-    pub core-samples : Words 160 (samplesOf (d .turns))
-    core-samples = rw core-count at (joined-words (d .turns) (every-map (λ t r. r .samples) (d .turns) core-results))
-
-    pub core-flags : map (λ (place : ℕ). ltb place 40) (placesOf (d .turns)) ≡ flagsOf (d .turns)
-    core-flags = flags-by-places (d .turns) (every-map (λ t r. r .flag) (d .turns) core-results)
-
-    pub core-divisors : Every (Divides 16384) (quotientsOf (d .turns))
-    core-divisors = every-flat (Divides 16384) (λ (t : Turn). t .quotients) (d .turns) (every-map (λ t r. r .divisors) (d .turns) core-results)
-
-    pub core-held : Held (d .next)
-    unfolding decoded
-    core-held = after-each Held (opened c f) (d .turns) (record { past = h .past; history = h .history }) (every-map (λ t r. r .held) (d .turns) core-results)
-
-    pub core-lsp : d .next .lsp ≡ lspsOf (f .lsfs)
-    unfolding decoded
-    core-lsp = after-each (λ (c : Core). c .lsp ≡ lspsOf (f .lsfs)) (opened c f) (d .turns) refl (every-map (λ t r. r .lsp) (d .turns) core-results)
-
-    pub core-sharpening : (pos 0 ≤ℤ c .sharpening .0) × (c .sharpening .0 ≤ℤ pos 13017) → (pos 0 ≤ℤ d .next .sharpening .0) × (d .next .sharpening .0 ≤ℤ pos 13017)
-    unfolding decoded
-    core-sharpening i = after-each (λ (c : Core). (pos 0 ≤ℤ c .sharpening .0) × (c .sharpening .0 ≤ℤ pos 13017)) (opened c f) (d .turns) i (every-map (λ t r. r .sharpening) (d .turns) core-results)
-
-    -- after a retried last subframe
-    pub core-small : getD (flagsOf (d .turns)) 3 false ≡ true → Every Small (d .next .past)
-    unfolding decoded
-    core-small e = after-last (λ (c : Core). Every Small (c .past)) (opened c f) (d .turns) 3 core-count (every-map (λ t r. r .small) (d .turns) core-results) e
+pub core-result : (c : Core) (f : FrameInputs) → Usable f → Held c → CoreResult (lspsOf (f .lsfs)) (decoded c f)
+unfolding decoded
+core-result c f u h =
+    let ts = decoded c f .turns in
+    let rows = ran-rows (opened c f) (rowList (decoded c f .rows)) (f .subframes) (sym (u .four)) in
+    let four = sym (length-map ts (λ (t : Turn). t .fed .row)) ∙ ap length rows in
+    let each = results (opened c f) (rowList (decoded c f .rows)) (f .subframes) (lspsOf (f .lsfs)) refl (record { past = h .past; history = h .history }) (u .subframes) in
+    let l = last (Result (lspsOf (f .lsfs))) (opened c f) ts 3 four each in
+    record {
+      rows = rows;
+      four = four;
+      samples = rw four at (joined-words ts (every-map (λ t r. r .samples) ts each));
+      flags = flags-by-places ts (every-map (λ t r. r .flag) ts each);
+      divisors = every-flat (Divides 16384) (λ (t : Turn). t .quotients) ts (every-map (λ t r. r .divisors) ts each);
+      next = rw (l .next) (l .holds .next);
+      small = λ e. rw (l .next) (l .holds .small (sym (l .flag) ∙ e));
+    }

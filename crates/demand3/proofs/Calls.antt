@@ -9,14 +9,13 @@ use Rattle.basicop.specs.Ops.{Quotient}
 use Rattle.basicop.specs.Divided.{Divides}
 use Rattle.basicop.proofs.Ints.{arithℤ}
 use Rattle.decoder.specs.Inputs.{FrameInputs, Usable}
-use Rattle.decoder.proofs.Results.{core-rows, core-count}
 use Rattle.state.specs.declared.State.{State}
 use Rattle.outcome.specs.declared.Outcome.{Outcome}
 use Rattle.state.specs.State.{WellFormed}
 use Rattle.state.proofs.Checks.{Kept}
 use Rattle.mr74.specs.Frame.{Trace, acceptedTrace}
 use Rattle.calls.specs.Calls.{Call, traceOf, nextState, accepted}
-use Rattle.calls.proofs.Frames.{held, tilting, frame-divisors}
+use Rattle.calls.proofs.Frames.{held, frame-result, frame-divisors}
 use Rattle.calls.proofs.Calls.{decided, accepts, refuses}
 use Rattle.demand3.specs.Measure.{Machine, leavesAll}
 use Rattle.demand3.specs.Demand3.{opening, machineAfter, InCall, Refused}
@@ -28,16 +27,16 @@ not-zero n h q d e = omega (arithℤ, d .from, e)
 -- the frame of usable inputs
 frame-in : (inputs : FrameInputs) (s : State) → Usable inputs → WellFormed s → Kept s → (o : Outcome) → InCall (acceptedTrace o inputs s) (opening s)
 frame-in inputs s u w k o =
-    let t = tilting inputs s u w k in
+    let r = frame-result inputs s u w k in
     let h = held inputs s u w k in
     record {
-      tilts = (t .tilts, t .range);
+      tilts = (r .post .tilts, r .post .range);
       divisors = every-map (not-zero 512 (lit≤ tt)) (acceptedTrace o inputs s .quotients) (frame-divisors inputs s u w k o);
-      four = core-count (s .core) inputs u;
+      four = r .core .four;
       flags = refl;
-      rows = core-rows (s .core) inputs u;
-      subframes = core-beside (s .core) inputs h;
-      left = sym (core-leaves (s .core) inputs h);
+      rows = r .core .rows;
+      subframes = core-beside (s .core) inputs u h;
+      left = sym (core-leaves (s .core) inputs u h);
     }
 
 pub call-refused : (s : State) (c : Call) (m : Machine) → accepted (traceOf s c) ≡ false → Refused s (traceOf s c) m

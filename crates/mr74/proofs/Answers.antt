@@ -9,7 +9,7 @@ use lib.ListN.{length}
 use Rattle.decoder.specs.declared.Frame.{Frame as Core·Frame}
 use Rattle.decoder.specs.Inputs.{FrameInputs, Usable}
 use Rattle.decoder.specs.Core.{toldFrame}
-use Rattle.decoder.proofs.Results.{Held, core-flags}
+use Rattle.decoder.proofs.Results.{Held, core-result}
 use Rattle.postfilter.specs.declared.Frame.{Frame as Post·Frame}
 use Rattle.postfilter.specs.Postfilter.{processed}
 use Rattle.state.specs.declared.State.{State}
@@ -25,7 +25,7 @@ use Rattle.mr74.specs.Inner.{decodedOf, refusal}
 pub decoded-are : (inputs : FrameInputs) (s : State) {f : Core·Frame} {q : Post·Frame} {fl : List Bool} → Usable inputs → Held (s .core) → f ≡ toldFrame (coreOf inputs s) → q ≡ processed (s .post) (f .rows) (f .run .samples) .output → fl ≡ map (λ (place : ℕ). ltb place 40) (f .run .places)
     → _≡_ {A = Decoded} (record { rows = f .rows; flags = fl; samples = q .samples; next = record { core = f .run .next; post = q .memory } }) (decodedOf inputs s)
 unfolding decodedOf
-decoded-are inputs s u h ef eq el = rw (el, eq, ef, core-flags (s .core) inputs u h)
+decoded-are inputs s u h ef eq el = rw (el, eq, ef, core-result (s .core) inputs u h .flags)
 
 module _ (sheet : List ℤ) (s : State) (out : List ℤ) where
   pub answer-accepted : {o : Outcome} {d : Decoded} {lent : List ℤ} → o ≡ frameOutcome sheet s (length out) → isAccepted o ≡ true → d ≡ decodedOf (sheetInputs sheet) s → lent ≡ d .samples

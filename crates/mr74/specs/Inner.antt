@@ -12,7 +12,7 @@ use Rattle.decoder.specs.Inputs.{FrameInputs}
 use Rattle.decoder.specs.Core.{flagsOf}
 use Rattle.state.specs.declared.State.{State}
 use Rattle.outcome.specs.declared.Outcome.{Outcome}
-use Rattle.mr74.specs.declared.FourLags.{FourLags}
+use Rattle.mr74.specs.declared.LagPair.{LagPair}
 use Rattle.mr74.specs.declared.Decoded.{Decoded}
 use Rattle.mr74.specs.declared.FrameAnswer.{FrameAnswer}
 use Rattle.mr74.specs.Sheet.{lsfsOf}
@@ -27,9 +27,9 @@ pub record Ready (sheet : List ℤ) : Type 0 where
   pub index-c : (pos 0 ≤ℤ at sheet 12) × (at sheet 12 ≤ℤ pos 255)
   pub index-d : (pos 0 ≤ℤ at sheet 13) × (at sheet 13 ≤ℤ pos 31)
 
--- the code's four lags
-abbrev pub fourLags : FourLags → List Lag
-fourLags l = lagOf (l .a) ∷ lagOf (l .b) ∷ lagOf (l .c) ∷ lagOf (l .d) ∷ []
+-- the code's two lags
+abbrev pub twoLags : LagPair → List Lag
+twoLags l = lagOf (l .first) ∷ lagOf (l .second) ∷ []
 
 -- what an accepted call gives
 unfoldable pub decodedOf : FrameInputs → State → Decoded

@@ -1,5 +1,5 @@
 -- The frame sheet of document 01: 0..9 LSF; 10..13 pitch indices; 14..21 gains, pitch then code for each subframe; 22..181 innovation, forty for each subframe.
-use mathlib.Core.List.{List, [], _∷_}
+use mathlib.Core.List.{List, [], _∷_, _++_}
 use Prim.Native.Nat.{ℕ, suc, _+_, _*_}
 use lib.IntN.{ℤ}
 use lib.ListN.{take, drop}
@@ -16,12 +16,16 @@ indicesOf sheet = take 4 (drop 10 sheet)
 abbrev pub gainsOf : List ℤ → List ℤ
 gainsOf sheet = take 8 (drop 14 sheet)
 
--- the four lags (Dec_lag3): subframes 1 and 3 go by the lag before
-unfoldable pub lagsOf : List ℤ → List Lag
-lagsOf sheet =
-    let a = absolute (at sheet 10) in
-    let c = absolute (at sheet 12) in
-    a ∷ relative (at sheet 11) (a .samples) ∷ c ∷ relative (at sheet 13) (c .samples) ∷ []
+-- ---- lags (Dec_lag3)
+-- of two subframes, by their indices: the second goes by the lag of the first
+abbrev pub lagPair : ℤ → ℤ → List Lag
+lagPair n m =
+    let a = absolute n in
+    a ∷ relative m (a .samples) ∷ []
+
+-- of the four
+abbrev pub lagsOf : List ℤ → List Lag
+lagsOf sheet = lagPair (at sheet 10) (at sheet 11) ++ lagPair (at sheet 12) (at sheet 13)
 
 -- ---- the inputs of the frame
 -- of subframe k, with its lag

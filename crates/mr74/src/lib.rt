@@ -10,9 +10,9 @@ ghost use Rattle.outcome.specs.Checks.{firstMet};
 ghost use Rattle.mr74.specs.Checks.{lengthChecks, lsfChecks, pitchChecks, gainChecks, sheetChecks, frameOutcome};
 ghost use Rattle.decoder.specs.Inputs.{subframeOf, inputsOf, Usable};
 ghost use Rattle.pitch.specs.Lag.{lagOf};
-ghost use Rattle.mr74.specs.Sheet.{lsfsOf, lagsOf, innovationOf, subframeAt, sheetInputs};
+ghost use Rattle.mr74.specs.Sheet.{lsfsOf, lagPair, innovationOf, subframeAt, sheetInputs};
 ghost use Rattle.mr74.specs.Frame.{called, frameCall};
-ghost use Rattle.mr74.specs.Inner.{Ready, fourLags, decodedOf, refusal};
+ghost use Rattle.mr74.specs.Inner.{Ready, twoLags, decodedOf, refusal};
 use basicop::Q1;
 use basicop::Q14;
 use decoder::Inputs;
@@ -51,23 +51,23 @@ fn byte(index: i16) -> u8
     index as u8
 }
 
-// The lags of the four subframes.
-struct FourLags {
-    a: PitchLag,
-    b: PitchLag,
-    c: PitchLag,
-    d: PitchLag,
+// The lags of two subframes.
+struct LagPair {
+    first: PitchLag,
+    second: PitchLag,
 }
 
-fn lags(sheet: &[i16]) -> FourLags
-    requires { ⌜ Ready (now sheet) ⌝ }
-    ensures { λ r. ⌜ fourLags r ≡ lagsOf (now (sheet .entry)) ⌝ }
+// By their indices, the second after the first.
+fn lags(first: i16, second: i16) -> LagPair
+    requires { ⌜ ((pos 0 ≤ℤ first) × (first ≤ℤ pos 255)) × ((pos 0 ≤ℤ second) × (second ≤ℤ pos 31)) ⌝ }
+    ensures { λ r. ⌜ twoLags r ≡ lagPair first second ⌝ }
 {
-    let a = PitchLag::from_absolute(byte(sheet[10]));
-    let b = PitchLag::from_relative(byte(sheet[11]), a);
-    let c = PitchLag::from_absolute(byte(sheet[12]));
-    let d = PitchLag::from_relative(byte(sheet[13]), c);
-    FourLags { a, b, c, d }
+    let a = PitchLag::from_absolute(byte(first));
+    let b = PitchLag::from_relative(byte(second), a);
+    LagPair {
+        first: a,
+        second: b,
+    }
 }
 
 // The forty numbers of a subframe's innovation.
@@ -102,11 +102,12 @@ fn inputs(sheet: &[i16]) -> Inputs
     ensures { λ r. ⌜ inputsOf r ≡ sheetInputs (now (sheet .entry)) ⌝ }
 {
     let lsfs = lsfs(sheet);
-    let lags = lags(sheet);
-    let first = lags.a;
-    let second = lags.b;
-    let third = lags.c;
-    let fourth = lags.d;
+    let early = lags(sheet[10], sheet[11]);
+    let late = lags(sheet[12], sheet[13]);
+    let first = early.first;
+    let second = early.second;
+    let third = late.first;
+    let fourth = late.second;
     let a = parameters(sheet, 0, first);
     let b = parameters(sheet, 1, second);
     let c = parameters(sheet, 2, third);

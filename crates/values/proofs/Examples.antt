@@ -32,7 +32,6 @@ use Rattle.postfilter.specs.Postfilter.{filtered, processed}
 use Rattle.outcome.specs.Checks.{firstMet, firstOutside}
 use Rattle.state.specs.State.{WellFormed, stateOutcome}
 use Rattle.state.specs.Layout.{coreOf, postOf, stateOf}
-use Rattle.mr74.specs.Sheet.{lagsOf}
 use Rattle.mr74.specs.Checks.{frameOutcome}
 use Rattle.mr74.specs.Frame.{frameTrace}
 use Rattle.calls.specs.Calls.{traceOf, runCalls, anyAccepted, latestFlag}
@@ -62,7 +61,7 @@ silent-well-formed =
     }
 
 seen-is : seen (traceOf silent call) ≡ expected
-unfolding flatMap iter tab clamp asr wrap add sub mult shl L-add L-sub L-mult L-shl L-shr-r L-deposit-h doublings norm-l div-s L-Extract Mpy-32-16 absolute lag-min relative cosine between lspOf raisedAt polynomial rowOf rowsOf inter6 phase start interpolated extended predicted sharpened sharpening feedback squares energy energyGain agc2 inverseTable rootScaled rootIndex rootFraction rootBetween inverseRoot outside fed numbersOf leaves leavesAny acc accs enhanced firstExcitation synthesised excited turn ran decoded firstMet stateOf coreOf postOf lagsOf firstOutside frameOutcome frameTrace loud silent numerator denominator weighted residualSum residual tilts.impulse tilts.energy tilts.correlation tilts.tiltOf tilts.tilt preemphasised filtered processed agc controlled
+unfolding flatMap iter tab clamp asr wrap add sub mult shl L-add L-sub L-mult L-shl L-shr-r L-deposit-h doublings norm-l div-s L-Extract Mpy-32-16 absolute lag-min relative cosine between lspOf raisedAt polynomial rowOf rowsOf inter6 phase start interpolated extended predicted sharpened sharpening feedback squares energy energyGain agc2 inverseTable rootScaled rootIndex rootFraction rootBetween inverseRoot outside fed numbersOf leaves leavesAny acc accs enhanced firstExcitation synthesised excited turn ran decoded firstMet stateOf coreOf postOf firstOutside frameOutcome frameTrace loud silent numerator denominator weighted residualSum residual tilts.impulse tilts.energy tilts.correlation tilts.tiltOf tilts.tilt preemphasised filtered processed agc controlled
 seen-is = refl
 
 pub example : Example

@@ -1,21 +1,9 @@
--- Feedback and first excitation, from prediction, sharpened innovation and gains: excited-is. The lag's range, in ℕ, is what the callees ask.
-use Prim.Native.Nat.{_≤_}
+-- Feedback and first excitation, from prediction, sharpened innovation and gains: excited-is.
 use borrow.Author.Needs.{needs}
 use Rattle.basicop.proofs.Ints.{arithℤ}
-use Rattle.decoder.specs.declared.Parameters.{Parameters}
-use Rattle.decoder.specs.Inputs.{subframeOf, UsableSubframe}
 use Rattle.decoder.proofs.Turns.{excited-is}
 use Rattle.decoder.proofs.excite.Statement.{statement}
 use Rattle.decoder.proofs.excite.Tie as tie
-
-range : (p : Parameters) → UsableSubframe (subframeOf p) → (19 ≤ p .lag .samples) × (p .lag .samples ≤ 144)
-range p u = (omega (arithℤ, u .from), omega (arithℤ, u .to))
-
-sharpen-requires : tie.Need-sharpen-requires
-sharpen-requires c κs =
-    let s = c .before .before .before .before .before in
-    let r = range (s .args .p) (s .pre) in
-    search (needs, r)
 
 returns : tie.Need-returns
 returns c =
@@ -29,9 +17,9 @@ pub excite-spec : {M : Type 1} → statement M
 excite-spec =
     tie.close
     (tie.spec
-    (λ c κs. range (c .before .before .args .p) (c .before .before .pre))
+    (λ c κs. search needs)
     (λ c. search needs)
-    sharpen-requires
+    (λ c κs. (omega arithℤ, omega arithℤ))
     (λ c κs. search needs)
     (λ c κs. search needs)
     returns)
