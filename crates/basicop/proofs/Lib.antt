@@ -14,5 +14,6 @@ mod Corners
 pub mod Norm
 pub mod Division
 pub mod Split
+pub mod Tables
 pub mod Words
 pub mod Unclamped

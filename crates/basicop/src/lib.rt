@@ -9,6 +9,12 @@ ghost use mir.Syntax.{w16, w32};
 ghost use Rattle.basicop.specs.Ops.{clamp, asr, modZ, add, sub, mult, shl, shr, quartered, L-add, L-sub, L-mult, L-mac, L-msu, L-shl, L-shr, L-shr-r, extract-h, extract-l, round, L-deposit-h, norm-l, div-s, L-Extract, Mpy-32-16};
 ghost use Rattle.basicop.specs.Unclamped.{Unclamped};
 
+mod interpolation;
+
+pub use interpolation::between;
+pub use interpolation::interpolate;
+pub use interpolation::locate;
+
 // A number that is handed on between functions has its scaling in its type: Qn is scaled by 2 ^ n.
 // Pitch gain and sharpening.
 pub struct Q14(pub i16);
@@ -23,6 +29,12 @@ pub struct Q15(pub i16);
 pub struct Dpf {
     pub hi: i16,
     pub lo: i16,
+}
+
+// Where a number lies in a table: the index of the entry before it, and the fraction (Q15) of the way to the next.
+pub struct Position {
+    pub index: i16,
+    pub fraction: i16,
 }
 
 // x held to the range of an i16

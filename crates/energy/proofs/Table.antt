@@ -5,11 +5,12 @@ use Prim.Native.Nat.{ℕ, _+_, _<_}
 use native.Mathlib.Omega.{arith}
 use borrow.Author.Tests.{lt-leb}
 use lib.Dec.{T, leb}
-use lib.IntN.{ℤ, pos, _+ℤ_}
+use lib.IntN.{ℤ, pos, negsuc, _+ℤ_}
 use lib.ListN.{length}
 use lib.Signed.{leZ, ltZ, _≤ℤ_, _<ℤ_, leZ-yes, ltZ-yes}
-use Rattle.lists.specs.Lists.{at}
+use Rattle.lists.specs.Lists.{at, entry}
 use Rattle.lists.proofs.Table.{at-each, both, both-left, both-right}
+use Rattle.basicop.proofs.Ints.{arithℤ}
 use Rattle.energy.specs.Root.{inverseTable}
 
 pub table-length : length inverseTable ≡ 49
@@ -52,3 +53,8 @@ entry-step k h =
     let y = at inverseTable (k + 1) in
     let t = rw (lt-leb 48 k h) at (both-right (range x) _ (tested k (omega arith))) in
     record { falls = ltZ-yes (both-left (ltZ y x) (leZ x (y +ℤ pos 977)) t); small = leZ-yes (both-right (ltZ y x) (leZ x (y +ℤ pos 977)) t) }
+
+-- at an integer index: its entry, and the next
+pub entry-of : (i : ℤ) → pos 0 ≤ℤ i → i <ℤ pos 48 → Entry (entry inverseTable i) × Entry (entry inverseTable (i +ℤ pos 1))
+entry-of (pos i) h l = (entry-in i (omega arithℤ), entry-in (i + 1) (omega arithℤ))
+entry-of (negsuc i) h l = absurd (h .le)

@@ -6,17 +6,17 @@ ghost use lib.IntN.{pos, natAbs};
 ghost use lib.Signed.{_≤ℤ_, _<ℤ_};
 ghost use Rattle.basicop.specs.Ops.{L-shl, L-shr, round, norm-l, div-s};
 ghost use Rattle.energy.specs.Energy.{squares, energy};
-ghost use Rattle.energy.specs.Root.{inverseTable, rootScaled, rootIndex, rootFraction, rootBetween, inverseRoot};
+ghost use Rattle.energy.specs.Root.{rootScaled, inverseRoot};
 ghost use Rattle.energy.specs.Gain.{gain-out, gain-in, ratio, energyGain, scaledBy, agc2, smooth, controlled, agc, together};
 use basicop::add;
 use basicop::clamp32;
 use basicop::div_s;
 use basicop::extract_h;
-use basicop::l_deposit_h;
-use basicop::l_msu;
+use basicop::interpolate;
 use basicop::l_mult;
 use basicop::l_shl;
 use basicop::l_shr;
+use basicop::locate;
 use basicop::mult;
 use basicop::norm_l;
 use basicop::quarter;
@@ -126,32 +126,6 @@ fn normalized(value: i32, normalization: u32) -> i32
     shifted
 }
 
-// the place in the table
-fn index_of(normalized: i32) -> usize
-    requires { ⌜ pos 536870912 ≤ℤ normalized ⌝ }
-    ensures { λ r. ⌜ (pos r ≡ rootIndex normalized) × (r < 48) ⌝ }
-{
-    (((normalized as u32) >> 25) - 16) as usize
-}
-
-// how far it is to the next place
-fn fraction_of(normalized: i32) -> i16
-    requires { ⌜ pos 0 ≤ℤ normalized ⌝ }
-    ensures { λ r. ⌜ r ≡ rootFraction normalized ⌝ }
-{
-    (((normalized as u32) >> 10) % 32768) as i16
-}
-
-// between an entry of the table and the next
-fn interpolated(table: &[i16; 49], index: usize, fraction: i16) -> i32
-    requires { ⌜ (now table ≡ inverseTable) × (index < 48) ⌝ }
-    ensures { λ r. ⌜ r ≡ rootBetween (pos index) fraction ⌝ }
-{
-    let low = table[index];
-    let fall = sub(low, table[index + 1]);
-    l_msu(l_deposit_h(low), fall, fraction)
-}
-
 // 1 / sqrt(value); zero or less gives 1073741823
 pub fn inverse_sqrt(value: i32) -> i32
     ensures { λ r. ⌜ r ≡ inverseRoot value ⌝ }
@@ -162,7 +136,7 @@ pub fn inverse_sqrt(value: i32) -> i32
     let n = normalization(value);
     let scaled = normalized(value, n);
     let table = INVERSE_TABLE;
-    let between = interpolated(&table, index_of(scaled), fraction_of(scaled));
+    let between = interpolate(&table, locate(scaled >> 9, 16));
     between >> ((30 - n) / 2 + 1)
 }
 

@@ -7,7 +7,7 @@ use mir.Syntax.{w16}
 use mir.Val.{toZ, ofZ}
 use mir.Facts.{toZ-ofZ}
 use Rattle.lists.proofs.Signed.{got}
-use Rattle.energy.proofs.Root.{Normalised, normalised}
+use Rattle.basicop.proofs.Norm.{Normalised, normalised}
 use Rattle.energy.proofs.normalization.Statement.{statement}
 use Rattle.energy.proofs.normalization.Tie as tie
 
