@@ -3,6 +3,7 @@ ghost use mathlib.Core.Path.{_≡_};
 ghost use mathlib.Core.List.{map};
 ghost use Prim.Native.Nat.{_*_, _<_, _≤_};
 ghost use lib.IntN.{pos, natAbs};
+ghost use lib.ListN.{length};
 ghost use lib.Signed.{_≤ℤ_, _<ℤ_};
 ghost use Rattle.basicop.specs.Ops.{L-shl, L-shr, round, norm-l, div-s};
 ghost use Rattle.energy.specs.Energy.{squares, energy};
@@ -30,12 +31,13 @@ fn doubled_square(sample: i16) -> u64
     (2 * (wide * wide)) as u64
 }
 
-// Squares never fall, so that the clamped sum is the exact one, held once.
-fn squares(samples: [i16; 40]) -> i32
-    ensures { λ r. ⌜ r ≡ squares samples ⌝ }
+// Squares never fall, so that the clamped sum is the exact one, held once. Every caller has fewer than 65536 samples, so that it fits.
+pub fn squares(samples: &[i16]) -> i32
+    requires { ⌜ length (now samples) ≤ 65536 ⌝ }
+    ensures { λ r. ⌜ r ≡ squares (now (samples .entry)) ⌝ }
 {
     let mut sum: u64 = 0;
-    for i in 0..40 {
+    for i in 0..samples.len() {
         sum += doubled_square(samples[i]);
     }
     clamp32(sum as i64)
@@ -45,9 +47,10 @@ fn squares(samples: [i16; 40]) -> i32
 pub fn energy(samples: [i16; 40]) -> i32
     ensures { λ r. ⌜ r ≡ energy samples ⌝ }
 {
-    let sum = squares(samples);
+    let sum = squares(&samples);
     if 2147483646 < sum {
-        return squares(quarter(samples));
+        let quartered = quarter(samples);
+        return squares(&quartered);
     }
     sum >> 4
 }

@@ -60,7 +60,7 @@ silent-well-formed =
     }
 
 seen-is : seen (traceOf silent call) ≡ expected
-unfolding iter tab firstNot clamp asr wrap add sub mult shl L-add L-sub L-mult L-shl L-shr-r L-deposit-h doublings norm-l div-s L-Extract Mpy-32-16 absolute lag-min relative cosine between lspOf raisedAt polynomial rowOf rowsOf inter6 phase start interpolated extended predicted sharpened sharpening feedback squares energy energyGain agc2 inverseTable rootScaled inverseRoot outside fed numbersOf leaves leavesAny acc accs enhanced firstExcitation synthesised excited turn ran decoded firstMet stateOf lagsOf firstIndexOutside verdict frameTrace loud silent numerator denominator weighted residualSum residual tilts.impulse tilts.energy tilts.correlation tilts.tiltOf tilts.tilt preemphasised filtered processed agc controlled
+unfolding iter tab firstNot clamp asr wrap add sub mult shl L-add L-sub L-mult L-shl L-shr-r L-deposit-h doublings norm-l div-s L-Extract Mpy-32-16 absolute lag-min relative cosine between lspOf raisedAt polynomial rowOf rowsOf inter6 phase start interpolated extended predicted sharpened sharpening feedback squares energy energyGain agc2 inverseTable rootScaled inverseRoot outside fed numbersOf leaves leavesAny acc accs enhanced firstExcitation synthesised excited turn ran decoded firstMet stateOf lagsOf firstIndexOutside verdict frameTrace loud silent numerator denominator weighted residualSum residual tilts.impulse tilts.correlation tilts.tiltOf tilts.tilt preemphasised filtered processed agc controlled
 seen-is = refl
 
 pub example : Example

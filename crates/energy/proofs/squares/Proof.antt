@@ -1,8 +1,10 @@
+-- `squares` meets its contract: its loop folds the exact sum, which is held to 32 bits once.
 use Prim.Native.Nat.{_*_, _-_, _≤_}
 use native.Mathlib.Omega.{arith}
 use borrow.Author.Needs.{needs}
 use mathlib.Core.Path.{refl, ap, _∙_}
 use lib.IntN.{pos}
+use lib.ListN.{length}
 use mir.Syntax.{w16, w32, w64}
 use mir.Facts.{toZ-pos}
 use Rattle.basicop.specs.Ops.{clamp}
@@ -13,13 +15,13 @@ use Rattle.energy.proofs.squares.Statement.{statement}
 use Rattle.energy.proofs.squares.Tie as tie
 
 abbrev Inv-loop : tie.InvT-loop
-Inv-loop samples sum₀ i₀ sum i = (i ≤ 40) × ((sum ≤ i * 2147483648) × Folding with-square samples 40 (exact samples) sum i)
+Inv-loop samples sum₀ i₀ i-end sum i = (i ≤ length samples) × ((sum ≤ i * 2147483648) × Folding with-square samples (length samples) (exact samples) sum i)
 
 abbrev μ-loop : tie.MeasureT-loop
-μ-loop samples sum₀ i₀ sum i = 40 - i
+μ-loop samples sum₀ i₀ i-end sum i = length samples - i
 
 loop-holds : tie.Need-loop-holds Inv-loop μ-loop
-loop-holds c = (search needs, (search needs, fold-none (search needs) refl))
+loop-holds c = (search needs, (search needs, fold-none refl refl))
 
 loop-again : tie.Need-loop-again Inv-loop μ-loop
 loop-again c =
@@ -36,7 +38,7 @@ returns c =
     let l = c .before .before in
     let h = l .loop .inv in
     got w32 (c .clamp32 .ok)
-    (c .clamp32 .ensures ∙ ap (clamp w32) (toZ-pos w64 (omega arith) ∙ ap pos (fold-done (h .1 .1) (search needs))) ∙ squares-held (l .before .args .t1))
+    (c .clamp32 .ensures ∙ ap (clamp w32) (toZ-pos w64 (omega arith) ∙ ap pos (fold-done (h .1 .1) (search needs))) ∙ squares-held (l .before .args .samples .now))
 
 pub squares-spec : {M : Type 1} → statement M
 squares-spec =
