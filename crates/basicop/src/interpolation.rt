@@ -5,10 +5,10 @@ ghost use lib.ListN.{length};
 ghost use lib.Signed.{_≤ℤ_, _<ℤ_};
 ghost use Rattle.basicop.specs.Interpolation.{positionOf, between, interpolated};
 use crate::Position;
-use crate::l_deposit_h;
-use crate::l_extract;
-use crate::l_msu;
-use crate::sub;
+use crate::arithmetic::l_msu;
+use crate::arithmetic::sub;
+use crate::extraction::l_deposit_h;
+use crate::oper_32b::l_extract;
 
 // The high word less a base, and the low 15 bits of x >> 1: L_Extract's halves are the two.
 pub fn locate(x: i32, base: i16) -> Position
@@ -22,7 +22,7 @@ pub fn locate(x: i32, base: i16) -> Position
 }
 
 // from an entry to the next
-pub fn between(low: i16, next: i16, fraction: i16) -> i32
+fn between(low: i16, next: i16, fraction: i16) -> i32
     ensures { λ r. ⌜ r ≡ between low next fraction ⌝ }
 {
     l_msu(l_deposit_h(low), sub(low, next), fraction)

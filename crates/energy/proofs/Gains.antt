@@ -17,7 +17,7 @@ use Rattle.basicop.proofs.Naturals.{asr-pos, sub-pos, L-shl-pos, round-pos}
 use Rattle.energy.specs.Root.{inverseRoot}
 use Rattle.energy.specs.Gain.{exp-out, gain-out, gain-in, ratio, gainFrom, energyGain}
 use Rattle.energy.proofs.Tests.{above-zero}
-use Rattle.energy.proofs.Plain.{root-from}
+use Rattle.energy.proofs.root.Plain.{root-from}
 
 -- ---- the rounded high word of y
 round-from : (y a : ℕ) → a * 65536 ≤ y + 32768 → a * 65536 ≤ 2147483647 → pos a ≤ℤ round (pos y)

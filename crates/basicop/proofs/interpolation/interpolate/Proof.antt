@@ -1,14 +1,14 @@
 -- `interpolate` meets its contract: the index and the one after it are in the table.
 use Prim.Native.Nat.{_+_, _<_, _≤_}
 use native.Mathlib.Omega.{arith}
-use mathlib.Core.Path.{_≡_, _∙_}
+use mathlib.Core.Path.{_∙_}
 use borrow.Author.Needs.{needs}
-use lib.IntN.{pos, natAbs, _+ℤ_}
+use lib.IntN.{natAbs}
 use lib.ListN.{length}
 use mir.Syntax.{w16, w32, w64}
 use mir.Val.{SFits, toZ, ofZ}
 use mir.Facts.{toZ-ofZ}
-use Rattle.lists.specs.Lists.{at, entry}
+use Rattle.lists.specs.Lists.{at}
 use Rattle.lists.proofs.Signed.{back, got}
 use Rattle.basicop.proofs.Range.{natAbs-in, cast-asks}
 use Rattle.basicop.proofs.Tables.{entry-next}
