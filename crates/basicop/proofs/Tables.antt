@@ -14,14 +14,14 @@ use Rattle.lists.specs.Lists.{at, entry}
 use Rattle.basicop.specs.Ops.{asr, sub, L-sub, L-mult, extract-h, L-deposit-h, L-Extract}
 use Rattle.basicop.specs.Interpolation.{positionOf, between}
 use Rattle.basicop.specs.declared.Dpf.{Dpf}
-use Rattle.basicop.proofs.Ints.{arithℤ, le-in, lt-in, sfits-by, mul-is, sub-ℤ-is}
+use Rattle.basicop.proofs.Ints.{arithℤ, le-in, lt-in, sfits-by, add-is, mul-is, sub-ℤ-is}
 use Rattle.basicop.proofs.Range.{natAbs-is, mul-bound, abs-by}
 use Rattle.basicop.proofs.Shift.{modZ-lt}
 use Rattle.basicop.proofs.Clamp.{clamp-id}
 use Rattle.basicop.proofs.Naturals.{minus, asr-pos}
 use Rattle.basicop.proofs.Split.{extract-is}
 
--- ---- the position of x: its index is the plain difference, with n entries from it on, and one after it
+-- ---- the position of x: its index is the plain difference, in 0 .. n - 1, and its fraction in 0..=32767
 pub record Within (n : ℕ) (base x : ℤ) : Type 0 where
   pub plain : positionOf base x .index ≡ extract-h x -ℤ base
   pub from : pos 0 ≤ℤ positionOf base x .index
@@ -60,6 +60,8 @@ pub record Between (t u a : ℤ) : Type 0 where
   pub value : between t u a ≡ t *ℤ pos 65536 -ℤ pos 2 *ℤ ((t -ℤ u) *ℤ a)
   pub from : (m : ℕ) → pos m ≤ℤ t → pos m ≤ℤ u → pos (m * 65536) ≤ℤ between t u a
   pub to : (m : ℕ) → t ≤ℤ pos m → u ≤ℤ pos m → between t u a ≤ℤ pos (m * 65536)
+  pub least : pos 0 ≤ℤ between t u a
+  pub most : between t u a ≤ℤ pos 2147418112
 
 -- the entries by their shares of 65536
 shares : (t u a : ℕ) → a ≤ 32767 → pos t *ℤ pos 65536 -ℤ pos 2 *ℤ ((pos t -ℤ pos u) *ℤ pos a) ≡ pos (t * (65536 - 2 * a) + u * (2 * a))
@@ -69,16 +71,16 @@ shares t u a h =
     let k : 65536 - 2 * a + 2 * a ≡ 65536 = omega arith in
     omega (arithℤ, sub-ℤ-is (pos t *ℤ pos 65536) (pos 2 *ℤ p), mul-is (pos 2) p, mul-is d (pos a), ap (λ (n : ℕ). n * a) (sub-ℤ-is (pos t) (pos u)), ap (λ (n : ℕ). t * n) k)
 
-module _ (t u a : ℕ) (ht : t ≤ 32767) (hu : u ≤ 32767) (ha : a ≤ 32767) where
+module _ (t u a : ℕ) (h : a ≤ 32767) where
   shared-from : (m : ℕ) → m ≤ t → m ≤ u → m * 65536 ≤ t * (65536 - 2 * a) + u * (2 * a)
-  shared-from m h l =
+  shared-from m l r =
       let k : 65536 - 2 * a + 2 * a ≡ 65536 = omega arith in
-      omega (arith, ap (λ (n : ℕ). m * n) k, mul-le-mul-right (65536 - 2 * a) h, mul-le-mul-right (2 * a) l)
+      omega (arith, ap (λ (n : ℕ). m * n) k, mul-le-mul-right (65536 - 2 * a) l, mul-le-mul-right (2 * a) r)
 
   shared-to : (m : ℕ) → t ≤ m → u ≤ m → t * (65536 - 2 * a) + u * (2 * a) ≤ m * 65536
-  shared-to m h l =
+  shared-to m l r =
       let k : 65536 - 2 * a + 2 * a ≡ 65536 = omega arith in
-      omega (arith, ap (λ (n : ℕ). m * n) k, mul-le-mul-right (65536 - 2 * a) h, mul-le-mul-right (2 * a) l)
+      omega (arith, ap (λ (n : ℕ). m * n) k, mul-le-mul-right (65536 - 2 * a) l, mul-le-mul-right (2 * a) r)
 
 pub step : (t u a : ℤ) → pos 0 ≤ℤ t → t ≤ℤ pos 32767 → pos 0 ≤ℤ u → u ≤ℤ pos 32767 → pos 0 ≤ℤ a → a ≤ℤ pos 32767 → Between t u a
 unfolding sub L-mult L-sub L-deposit-h
@@ -92,17 +94,23 @@ step (pos t) (pos u) (pos a) _ ht _ hu _ ha =
     let difference = clamp-id w16 d (sfits-by (omega (arith, natAbs-is d))) in
     let product = clamp-id w32 (pos 2 *ℤ (d *ℤ pos a)) (sfits-by (omega (arith, natAbs-is (pos 2 *ℤ (d *ℤ pos a)), mul-bound (pos 2) (d *ℤ pos a) (le-refl 2) (mul-bound d (pos a) size ia)))) in
     let value : between (pos t) (pos u) (pos a) ≡ pos t *ℤ pos 65536 -ℤ pos 2 *ℤ (d *ℤ pos a) =
-    rw (difference, product) (clamp-id w32 _ (rw e (record { sfits = omega (arith, shared-to t u a it iu ia 32767 it iu) }))) in
+    rw (difference, product) (clamp-id w32 _ (rw e (record { sfits = omega (arith, shared-to t u a ia 32767 it iu) }))) in
     record {
       difference = difference;
       product = product;
       value = value;
-      from = λ m h l. rw (value, e) (le-in (omega (arith, shared-from t u a it iu ia m (omega arithℤ) (omega arithℤ))));
-      to = λ m h l. rw (value, e) (le-in (omega (arith, shared-to t u a it iu ia m (omega arithℤ) (omega arithℤ))));
+      from = λ m h l. rw (value, e) (le-in (omega (arith, shared-from t u a ia m (omega arithℤ) (omega arithℤ))));
+      to = λ m h l. rw (value, e) (le-in (omega (arith, shared-to t u a ia m (omega arithℤ) (omega arithℤ))));
+      least = rw (value, e) (le-in (omega arith));
+      most = rw (value, e) (le-in (omega (arith, shared-to t u a ia 32767 it iu)));
     }
 step (pos t) (pos u) (negsuc a) _ _ _ _ h _ = absurd (h .le)
 step (pos t) (negsuc u) a _ _ h _ _ _ = absurd (h .le)
 step (negsuc t) u a h _ _ _ _ _ = absurd (h .le)
+
+-- ---- what `interpolate` asks: an index below n, in a table of n + 1 entries
+pub has-next : {n : ℕ} {base x : ℤ} (t : List ℤ) → Within n base x → length t ≡ n + 1 → (pos 0 ≤ℤ positionOf base x .index) × ((positionOf base x .index +ℤ pos 1) <ℤ pos (length t))
+has-next {n} {base} {x} t w e = rw e (w .from, omega (arithℤ, w .below, add-is (positionOf base x .index) (pos 1)))
 
 -- ---- as the code reads a table of any length
 pub entry-next : (t : List ℤ) (i : ℤ) → pos 0 ≤ℤ i → (i +ℤ pos 1) <ℤ pos (length t) → (natAbs i + 1 < length t) × (entry t i ≡ at t (natAbs i)) × (entry t (i +ℤ pos 1) ≡ at t (natAbs i + 1))

@@ -1,4 +1,4 @@
--- The steps of Inv_sqrt, for a positive number: what each gives, in ℕ where it can, its range, and as the code has it. Assumes nothing.
+-- The steps of Inv_sqrt, for a positive number: what each gives, its range, and as the code has it. Assumes nothing.
 use mathlib.Core.Path.{_≡_, ap, _∙_}
 use mathlib.Core.Bool.{true, false}
 use Prim.Native.Nat.{ℕ, _+_, _-_, _/_, _%_, _<_, _≤_}
@@ -14,10 +14,10 @@ use mir.Val.{SFits}
 use Rattle.lists.specs.Lists.{eqZ, entry}
 use Rattle.basicop.specs.Ops.{asr, low-bits, sub, L-shl, L-shr, norm-l}
 use Rattle.basicop.specs.Interpolation.{interpolated}
-use Rattle.basicop.proofs.Ints.{arithℤ, le-in, lt-in, ≤ℤ-trans, add-is}
+use Rattle.basicop.proofs.Ints.{arithℤ, le-in, lt-in, ≤ℤ-trans}
 use Rattle.basicop.proofs.Naturals.{asr-pos, add-pos, sub-pos}
 use Rattle.basicop.proofs.Norm.{Normalised, normalised}
-use Rattle.basicop.proofs.Tables.{Within, normal-within, Between, step}
+use Rattle.basicop.proofs.Tables.{Within, normal-within, Between, step, has-next}
 use Rattle.energy.specs.Root.{inverseTable, rootScaled, rootPosition, rootShift, inverseRoot}
 use Rattle.energy.proofs.Tests.{either}
 use Rattle.energy.proofs.root.Table.{table-length, entry-of}
@@ -37,7 +37,7 @@ unfolding rootScaled
 scaled-in x n r =
     rw (r .shifted) (either Scaled (eqZ (low-bits 1 (sub (pos 30) (pos n))) (pos 0)) (halved _ (r .from) (r .below)) (record { from = ≤ℤ-trans (leZ-yes tt) (r .from); below = r .below }))
 
--- ---- its position: 48 entries, and one after them
+-- ---- its position: below 48, in a table of 49 entries
 pub positioned : (y : ℤ) → Scaled y → Within 48 (pos 16) (L-shr y (pos 9))
 positioned y s = normal-within 16 y (lit≤ tt) (s .from) (s .below)
 
@@ -96,5 +96,4 @@ root-found x y b n p e h d l = rw (above x p, ← e, ← d, ← l, shift-is n h)
 pub scaled-found : (x y : ℤ) (n : ℕ) → pos 0 <ℤ x → SFits w32 x → pos n ≡ norm-l x → y ≡ rootScaled x (pos n) → (pos 0 ≤ℤ rootPosition y .index) × ((rootPosition y .index +ℤ pos 1) <ℤ pos (length inverseTable))
 scaled-found x y n p f e d =
     let h = normalised x p f in
-    let w = positioned y (rw (d, e, h .1 .count) (scaled-in x (h .0) (h .1))) in
-    rw table-length (w .from, omega (arithℤ, w .below, add-is (rootPosition y .index) (pos 1)))
+    has-next inverseTable (positioned y (rw (d, e, h .1 .count) (scaled-in x (h .0) (h .1)))) table-length

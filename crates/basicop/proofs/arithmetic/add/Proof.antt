@@ -1,3 +1,4 @@
+-- `add` meets its contract: the sum fits 32 bits and is clamped once.
 use mir.Syntax.{w16}
 use Rattle.basicop.specs.Ops.{add}
 use Rattle.lists.proofs.Signed.{got}

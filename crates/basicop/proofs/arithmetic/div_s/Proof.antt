@@ -1,3 +1,4 @@
+-- `div_s` meets its contract: the quotient of fifteen turns is one division.
 use mathlib.Core.Path.{_∙_}
 use Prim.Native.Nat.{_*_, _<_}
 use native.Mathlib.Nat.{div-le-self, lt-of-le-of-lt}

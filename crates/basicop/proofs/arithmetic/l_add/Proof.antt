@@ -1,3 +1,4 @@
+-- `l_add` meets its contract: the sum fits 64 bits and is clamped once.
 use mir.Syntax.{w32}
 use Rattle.basicop.specs.Ops.{L-add}
 use Rattle.lists.proofs.Signed.{got}

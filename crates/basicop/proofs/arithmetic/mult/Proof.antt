@@ -1,3 +1,4 @@
+-- `mult` meets its contract: the product fits 32 bits, is shifted and clamped once.
 use mir.Syntax.{w16}
 use Rattle.basicop.specs.Ops.{mult, asr}
 use Rattle.lists.proofs.Signed.{got}

@@ -1,3 +1,4 @@
+-- `sub` meets its contract: the difference fits 32 bits and is clamped once.
 use mir.Syntax.{w16}
 use Rattle.basicop.specs.Ops.{sub}
 use Rattle.lists.proofs.Signed.{got}

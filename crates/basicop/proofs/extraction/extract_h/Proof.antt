@@ -1,3 +1,4 @@
+-- `extract_h` meets its contract: x >> 16 fits 16 bits.
 use Rattle.basicop.specs.Ops.{asr}
 use Rattle.basicop.proofs.Calls.{needsℤ}
 use Rattle.basicop.proofs.extraction.extract_h.Statement.{statement}

@@ -1,3 +1,4 @@
+-- `extract_l` meets its contract: the residue, less 65536 from 32768 on.
 use mathlib.Core.Path.{_≡_, _∙_, sym}
 use lib.Dec.{lit<}
 use borrow.Author.Tests.{ltb-true, ltb-false}

@@ -1,3 +1,4 @@
+-- `l_deposit_h` meets its contract: the product fits 32 bits.
 use mir.Facts.{toZ-ofZ}
 use Rattle.basicop.specs.Ops.{L-deposit-h}
 use Rattle.basicop.proofs.Calls.{needsℤ}

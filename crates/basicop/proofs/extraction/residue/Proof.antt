@@ -1,3 +1,4 @@
+-- `residue` meets its contract: x less its high word at its place.
 use mathlib.Core.Path.{_≡_}
 use lib.Dec.{lit<}
 use lib.IntN.{ℤ, pos, _-ℤ_, _*ℤ_}

@@ -1,3 +1,4 @@
+-- `round` meets its contract: the calls are the definition's.
 use Rattle.basicop.proofs.Calls.{needsℤ, callsℤ}
 use Rattle.basicop.proofs.extraction.round.Statement.{statement}
 use Rattle.basicop.proofs.extraction.round.Tie as tie

@@ -1,3 +1,4 @@
+-- `headroom` meets its contract: a number of 31 bits has a leading zero.
 use native.Mathlib.Omega.{arith}
 use lib.Count.{leading-le}
 use mir.Syntax.{w16}

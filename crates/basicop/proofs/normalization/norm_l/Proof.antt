@@ -1,3 +1,4 @@
+-- `norm_l` meets its contract: doublings are counted by leading zeros.
 use mathlib.Core.Path.{_≡_, _∙_, sym}
 use mathlib.Core.Bool.{false}
 use Prim.Native.Nat.{_-_, _<_}

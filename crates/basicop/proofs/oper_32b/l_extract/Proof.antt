@@ -1,3 +1,4 @@
+-- `l_extract` meets its contract: no step of L_Extract clamps.
 use mathlib.Core.Path.{_≡_, sym}
 use native.Mathlib.Omega.{arith}
 use lib.IntN.{pos, _-ℤ_, _*ℤ_}

@@ -1,3 +1,4 @@
+-- `mpy_32_16` meets its contract: the calls are the definition's.
 use Rattle.basicop.specs.Ops.{Mpy-32-16}
 use Rattle.basicop.proofs.Calls.{needsℤ, callsℤ}
 use Rattle.basicop.proofs.oper_32b.mpy_32_16.Statement.{statement}

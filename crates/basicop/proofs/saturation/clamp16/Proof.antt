@@ -1,3 +1,4 @@
+-- `clamp16` meets its contract: its two tests are the definition's.
 use mir.Syntax.{w16, w32}
 use Rattle.basicop.proofs.Clamp.{held-low, held-high, held-fits, held-mid}
 use Rattle.basicop.proofs.saturation.clamp16.Statement.{statement}

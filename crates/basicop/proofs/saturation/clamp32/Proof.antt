@@ -1,3 +1,4 @@
+-- `clamp32` meets its contract: its two tests are the definition's.
 use mir.Syntax.{w32, w64}
 use Rattle.basicop.proofs.Clamp.{held-low, held-high, held-fits, held-mid}
 use Rattle.basicop.proofs.saturation.clamp32.Statement.{statement}

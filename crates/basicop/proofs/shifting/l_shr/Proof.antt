@@ -1,3 +1,4 @@
+-- `l_shr` meets its contract: by the sign of the count.
 use mathlib.Core.Path.{_∙_}
 use borrow.Author.Needs.{needs}
 use mir.Syntax.{w16, w32}

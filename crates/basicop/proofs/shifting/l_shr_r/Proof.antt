@@ -1,3 +1,4 @@
+-- `l_shr_r` meets its contract: the bit added is the difference of two shifts.
 use mathlib.Core.Path.{_≡_, _∙_}
 use Prim.Native.Nat.{_-_}
 use borrow.Author.Needs.{needs}

@@ -1,3 +1,4 @@
+-- `left` meets its contract: a count above 31 clamps as 31 does.
 use mathlib.Core.Path.{_∙_}
 use Prim.Native.Nat.{min, _<_, _+_, _^_}
 use native.Mathlib.Omega.{arith}

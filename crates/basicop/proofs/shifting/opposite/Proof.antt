@@ -1,3 +1,4 @@
+-- `opposite` meets its contract: the opposite of a negative 16-bit number fits 32 bits.
 use mathlib.Core.Path.{_≡_, refl}
 use Prim.Native.Nat.{ℕ, _<_}
 use native.Mathlib.Omega.{arith}

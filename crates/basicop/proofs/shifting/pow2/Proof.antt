@@ -1,3 +1,4 @@
+-- `pow2` meets its contract: a shift of 1 below 31, else the constant.
 use mathlib.Core.Path.{_≡_, _∙_, ap}
 use Prim.Native.Nat.{ℕ, min, _*_, _^_, _%_, _<_, _≤_}
 use native.Mathlib.Omega.{arith}

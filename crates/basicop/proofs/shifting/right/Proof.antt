@@ -1,3 +1,4 @@
+-- `right` meets its contract: a count above 31 leaves the sign as 31 does.
 use native.Mathlib.Omega.{arith}
 use lib.Dec.{lit≤}
 use mir.Syntax.{w32}

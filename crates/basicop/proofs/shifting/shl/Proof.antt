@@ -1,3 +1,4 @@
+-- `shl` meets its contract: L_shl of the number, clamped to 16 bits, is it.
 use mathlib.Core.Path.{_∙_}
 use mir.Syntax.{w16, w32}
 use mir.Facts.{toZ-ofZ}

@@ -1,3 +1,4 @@
+-- `energy_gain` meets its contract: the energies are positive where the ratio is taken.
 use mathlib.Core.Path.{_≡_, _∙_}
 use borrow.Author.Needs.{needs}
 use lib.IntN.{pos}

@@ -1,3 +1,4 @@
+-- `energy_ratio` meets its contract: for positive energies the division is in order.
 use mathlib.Core.Path.{_≡_}
 use borrow.Author.Needs.{needs}
 use mir.Syntax.{w16, w32}

@@ -1,3 +1,4 @@
+-- `match_energy` meets its contract: by the test of the output's energy.
 use mathlib.Core.Path.{_≡_, _∙_}
 use borrow.Author.Needs.{needs}
 use lib.IntN.{pos}

@@ -1,3 +1,4 @@
+-- `rounded` meets its contract: the calls are the definition's.
 use Rattle.basicop.proofs.Calls.{needsℤ, callsℤ}
 use Rattle.energy.proofs.gain.rounded.Statement.{statement}
 use Rattle.energy.proofs.gain.rounded.Tie as tie

@@ -1,3 +1,4 @@
+-- `scale` meets its contract: the calls are the definition's.
 use borrow.Author.Needs.{needs}
 use Rattle.basicop.proofs.Calls.{callsℤ}
 use Rattle.energy.proofs.gain.scale.Statement.{statement}

@@ -1,3 +1,4 @@
+-- `scaled_ratio` meets its contract: the calls are the definition's.
 use mir.Syntax.{w16, w32}
 use mir.Facts.{toZ-ofZ}
 use Rattle.lists.proofs.Signed.{got}

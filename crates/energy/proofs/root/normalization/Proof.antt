@@ -1,3 +1,4 @@
+-- `normalization` meets its contract: norm_l of a positive number is 0 to 30.
 use Prim.Native.Nat.{ℕ}
 use native.Mathlib.Omega.{arith}
 use mathlib.Core.Path.{_≡_, sym, _∙_}

@@ -1,3 +1,4 @@
+-- `normalized` meets its contract: the test of the exponent is the definition's.
 use mathlib.Core.Path.{_≡_, refl, _∙_}
 use native.Mathlib.Omega.{arith}
 use borrow.Author.Needs.{needs}

@@ -1,3 +1,4 @@
+-- `doubled_square` meets its contract: twice a square of 16 bits is at most 2 ^ 31.
 use mathlib.Core.Path.{_≡_, refl}
 use native.Mathlib.Omega.{arith}
 use lib.IntN.{pos, _*ℤ_}
