@@ -12,8 +12,9 @@ use lib.IntN.{ℤ, pos, negsuc, _*ℤ_}
 use lib.Signed.{_≤ℤ_, _<ℤ_}
 use mir.Syntax.{w32}
 use mir.Val.{SFits}
-use Rattle.basicop.specs.Ops.{doublings, norm-l}
+use Rattle.basicop.specs.Ops.{doublings, norm-l, L-shl}
 use Rattle.basicop.proofs.Ints.{arithℤ, mul-is}
+use Rattle.basicop.proofs.Clamp.{clamp-id}
 
 -- n · 2 ^ k has its highest digit at 2 ^ 30
 pub record Normal (n k : ℕ) : Type 0 where
@@ -110,13 +111,22 @@ doublings-le (suc f) n = go (ltb n 1073741824) (doublings-le f (2 * n))
     go true l = suc-le-suc l
     go false l = zero-le
 
--- ---- norm_l's two bounds: what is above 0 comes to 2 ^ 30 .. 2 ^ 31 - 1, what is below -1 to -2 ^ 31 .. -2 ^ 30 - 1
-pub norm-above : (x : ℤ) → pos 0 <ℤ x → SFits w32 x → (n : ℕ) × (norm-l x ≡ pos n) × (n ≤ 30) × (pos 1073741824 ≤ℤ (x *ℤ pos (2 ^ n))) × ((x *ℤ pos (2 ^ n)) <ℤ pos 2147483648)
-norm-above (pos a) p f =
+-- ---- norm_l's two bounds: what is above 0 comes to 2 ^ 30 .. 2 ^ 31 - 1, and shifted so far to the left it does not clamp; what is below -1 comes to -2 ^ 31 .. -2 ^ 30 - 1
+pub record Normalised (x : ℤ) (n : ℕ) : Type 0 where
+  pub count : norm-l x ≡ pos n
+  pub most : n ≤ 30
+  pub shifted : L-shl x (pos n) ≡ x *ℤ pos (2 ^ n)
+  pub from : pos 1073741824 ≤ℤ (x *ℤ pos (2 ^ n))
+  pub below : (x *ℤ pos (2 ^ n)) <ℤ pos 2147483648
+
+pub normalised : (x : ℤ) → pos 0 <ℤ x → SFits w32 x → (n : ℕ) × Normalised x n
+unfolding L-shl
+normalised (pos a) p f =
     let q : 0 < a = omega arithℤ in
+    let n = doublings 30 a in
     let h = doublings-normal a q (f .sfits) in
-    (doublings 30 a, norm-pos a q (f .sfits), doublings-le 30 a, omega (arithℤ, h .from), omega (arithℤ, h .below))
-norm-above (negsuc a) p f = absurd (p .lt)
+    (n, record { count = norm-pos a q (f .sfits); most = doublings-le 30 a; shifted = clamp-id w32 (pos (a * 2 ^ n)) (record { sfits = h .below }); from = omega (arithℤ, h .from); below = omega (arithℤ, h .below) })
+normalised (negsuc a) p f = absurd (p .lt)
 
 pub norm-below : (x : ℤ) → x <ℤ negsuc 0 → SFits w32 x → (n : ℕ) × (norm-l x ≡ pos n) × (n ≤ 30) × (negsuc 2147483647 ≤ℤ (x *ℤ pos (2 ^ n))) × ((x *ℤ pos (2 ^ n)) <ℤ negsuc 1073741823)
 unfolding norm-l

@@ -60,7 +60,7 @@ sfits-scale v m a b k l h j t =
     sfits-by (omega (arith, natAbs-is (pos m *ℤ (a *ℤ b)), mul-bound (pos m) (a *ℤ b) (le-refl m) (mul-bound a b (natAbs-in a h) (natAbs-in b j)), ltb→lt (m * (k * l)) (2 ^ hbits v) t))
 
 -- ---- sums and differences: no larger than both sizes together
-abs-by : (z : ℤ) {k : ℕ} → up z ≤ k + dn z → dn z ≤ k + up z → natAbs z ≤ k
+pub abs-by : (z : ℤ) {k : ℕ} → up z ≤ k + dn z → dn z ≤ k + up z → natAbs z ≤ k
 abs-by (pos n) h l = omega arith
 abs-by (negsuc n) h l = omega arith
 

@@ -10,14 +10,14 @@ use mir.Syntax.{w32}
 use mir.Val.{SFits}
 use Rattle.basicop.specs.Ops.{clamp, sub, L-shl, L-shr, round, div-s, norm-l}
 use Rattle.basicop.proofs.Ints.{arithℤ, le-in, ≤ℤ-trans}
+use Rattle.basicop.proofs.Norm.{Normalised, normalised}
 use Rattle.basicop.proofs.Shift.{asr-same}
 use Rattle.basicop.proofs.Fits.{L-shl-fits}
 use Rattle.basicop.proofs.Naturals.{asr-pos, sub-pos, L-shl-pos, round-pos}
 use Rattle.energy.specs.Root.{inverseRoot}
 use Rattle.energy.specs.Gain.{exp-out, gain-out, gain-in, ratio, gainFrom, energyGain}
 use Rattle.energy.proofs.Tests.{above-zero}
-use Rattle.energy.proofs.Root.{Normalised, normalised}
-use Rattle.energy.proofs.Plain.{root-from}
+use Rattle.energy.proofs.root.Plain.{root-from}
 
 -- ---- the rounded high word of y
 round-from : (y a : ℕ) → a * 65536 ≤ y + 32768 → a * 65536 ≤ 2147483647 → pos a ≤ℤ round (pos y)

@@ -23,8 +23,8 @@ use Rattle.energy.specs.declared.Controlled.{Controlled}
 use Rattle.energy.proofs.Tests.{eqZ-yes, not-zero}
 use Rattle.energy.proofs.Sums.{Energetic, energy-range}
 use Rattle.energy.proofs.Gains.{Gain, gain-divides, gain-from-in, gain-none, gain-some}
-use Rattle.energy.proofs.Smoothing.{Goal, target-in, smoothed-in, smoothed-top, smoothed-forty}
-use Rattle.energy.proofs.Controls.{agc2-none, agc2-some, agc-none, agc-some}
+use Rattle.energy.proofs.control.Smoothing.{Goal, target-in, smoothed-in, smoothed-top, smoothed-forty}
+use Rattle.energy.proofs.control.Controls.{agc2-none, agc2-some, agc-none, agc-some}
 
 -- ---- the gain between two energies is in 0..=32767, and the goal of the smoothing in 0..=3275
 quotient-fits : (n d : ℤ) → (pos 0 ≤ℤ n) × (n ≤ℤ d) × (pos 0 <ℤ d) → SFits w32 (div-s n d .value)

@@ -2,13 +2,14 @@
 use mathlib.Core.Path.{_≡_, refl, sym, ap, _∙_}
 use mathlib.Core.List.{List, [], _∷_, foldl}
 use Prim.Native.Nat.{ℕ, min, _+_, _*_, _≤_, _<_}
-use native.Mathlib.Nat.{mul-le-mul}
+use native.Mathlib.Nat.{mul-le-mul, le-refl, not-suc-le-zero}
 use native.Mathlib.Omega.{arith}
 use lib.IntN.{ℤ, pos, negsuc, natAbs, _*ℤ_}
+use lib.ListN.{length}
 use lib.Signed.{_≤ℤ_, _<ℤ_, mag}
 use mir.Syntax.{w32}
 use mir.Val.{SFits}
-use Rattle.lists.specs.Lists.{eqZ}
+use Rattle.lists.specs.Lists.{eqZ, at}
 use Rattle.basicop.specs.Ops.{clamp, asr, quartered, L-mult, L-mac}
 use Rattle.basicop.proofs.Ints.{arithℤ, le-in, ≤ℤ-antisym}
 use Rattle.basicop.proofs.Range.{natAbs-in}
@@ -50,12 +51,21 @@ squares-is xs = held xs 0
 pub squares-held : (xs : List ℤ) → clamp w32 (pos (exact xs)) ≡ squares xs
 squares-held xs = clamp-pos w32 (exact xs) ∙ sym (squares-is xs)
 
+-- the first square is in it
+sum-from : (xs : List ℤ) (a : ℕ) → a ≤ foldl with-square a xs
+sum-from [] a = le-refl a
+sum-from (x ∷ xs) a = omega (arith, sum-from xs (with-square a x))
+
+pub squares-start : (xs : List ℤ) → 0 < length xs → pos (min (2 * (natAbs (at xs 0) * natAbs (at xs 0))) 2147483647) ≤ℤ squares xs
+squares-start [] p = absurd (not-suc-le-zero p)
+squares-start (x ∷ xs) p = rw (squares-is (x ∷ xs)) (le-in (omega (arith, sum-from xs (with-square 0 x))))
+
 -- ---- the range of a sum and of an energy: 0 to 2147483647
 pub record Energetic (z : ℤ) : Type 0 where
   pub from : pos 0 ≤ℤ z
   pub fits : SFits w32 z
 
-squares-range : (xs : List ℤ) → Energetic (squares xs)
+pub squares-range : (xs : List ℤ) → Energetic (squares xs)
 squares-range xs = rw (squares-is xs) (record { from = le-in (omega arith); fits = record { sfits = omega arith } })
 
 shifted : (xs : List ℤ) → Energetic (asr (squares xs) 4)

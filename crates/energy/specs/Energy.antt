@@ -5,7 +5,7 @@ use lib.IntN.{ℤ, pos}
 use Rattle.lists.specs.Lists.{eqZ}
 use Rattle.basicop.specs.Ops.{quartered, L-mac, L-shr}
 
--- L_mac over all samples from 0: the first is L_mult
+-- L_mac over all numbers from 0: the first is L_mult. Post_Filter takes it of its impulse response too
 unfoldable pub squares : List ℤ → ℤ
 squares xs = foldl (λ (s x : ℤ). L-mac s x x) (pos 0) xs
 

@@ -1,10 +1,12 @@
 -- Inv_sqrt of TS 26.073: 1 / sqrt(x), between the entries of a table.
 use mathlib.Core.Bool.{cond}
 use mathlib.Core.List.{List, [], _∷_}
-use lib.IntN.{ℤ, pos, _+ℤ_}
+use lib.IntN.{ℤ, pos}
 use lib.Signed.{leZ}
-use Rattle.lists.specs.Lists.{eqZ, entry}
-use Rattle.basicop.specs.Ops.{low-bits, add, sub, shr, L-msu, L-shl, L-shr, extract-h, L-deposit-h, norm-l}
+use Rattle.lists.specs.Lists.{eqZ}
+use Rattle.basicop.specs.Ops.{low-bits, add, sub, shr, L-shl, L-shr, norm-l}
+use Rattle.basicop.specs.Interpolation.{positionOf, interpolated}
+use Rattle.basicop.specs.declared.Position.{Position}
 
 -- table: 49 entries (Q15)
 unfoldable pub inverseTable : List ℤ
@@ -21,19 +23,9 @@ rootScaled x n =
     let y = L-shl x n in
     cond (eqZ (low-bits 1 (sub (pos 30) n)) (pos 0)) (L-shr y (pos 1)) y
 
--- that, shifted by 9: its high word less 16 is the index
-unfoldable pub rootIndex : ℤ → ℤ
-rootIndex y = sub (extract-h (L-shr y (pos 9))) (pos 16)
-
--- shifted by 1 more, its low 15 bits are the fraction
-unfoldable pub rootFraction : ℤ → ℤ
-rootFraction y = low-bits 15 (L-shr (L-shr y (pos 9)) (pos 1))
-
--- fraction / 32768 of the way from entry i to the next
-unfoldable pub rootBetween : ℤ → ℤ → ℤ
-rootBetween i fraction =
-    let t = entry inverseTable i in
-    L-msu (L-deposit-h t) (sub t (entry inverseTable (i +ℤ pos 1))) fraction
+-- where that lies in the table
+abbrev pub rootPosition : ℤ → Position
+rootPosition y = positionOf (pos 16) (L-shr y (pos 9))
 
 -- the last shift: half the exponent, and 1
 abbrev pub rootShift : ℤ → ℤ
@@ -43,4 +35,4 @@ unfoldable pub inverseRoot : ℤ → ℤ
 inverseRoot x =
     let n = norm-l x in
     let y = rootScaled x n in
-    cond (leZ x (pos 0)) (pos 1073741823) (L-shr (rootBetween (rootIndex y) (rootFraction y)) (rootShift n))
+    cond (leZ x (pos 0)) (pos 1073741823) (L-shr (interpolated inverseTable (rootPosition y)) (rootShift n))

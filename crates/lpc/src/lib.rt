@@ -4,6 +4,7 @@ ghost use Prim.Native.Nat.{_+_, _-_, _<_, _≤_};
 ghost use lib.ListN.{take};
 ghost use Rattle.lists.specs.Lists.{pairwise};
 ghost use Rattle.lpc.specs.Rows.{blend, blend1, blend2, raisedFrom, raised, polynomial, everySecond, coefficient, row, rowOf, rowsOf};
+use basicop::Q15;
 use basicop::add;
 use basicop::extract_l;
 use basicop::l_add;
@@ -60,25 +61,25 @@ fn blend(old: [i16; 10], new: [i16; 10], subframe: usize) -> [i16; 10]
 }
 
 // a coefficient of the next degree, from the one at its place and the two before it
-fn raised_from(f: i32, before: i32, second: i32, root: i16) -> i32
-    ensures { λ r. ⌜ r ≡ raisedFrom f before second root ⌝ }
+fn raised_from(f: i32, before: i32, second: i32, root: Q15) -> i32
+    ensures { λ r. ⌜ r ≡ raisedFrom f before second (root .0) ⌝ }
 {
     l_sub(
         l_add(f, second),
-        l_shl(mpy_32_16(l_extract(before), root), 1),
+        l_shl(mpy_32_16(l_extract(before), root.0), 1),
     )
 }
 
 // From the polynomial of one degree less to that of `degree`, by the root. Above the degree the array holds anything.
 // `polynomial` shows the bounds.
-fn raise(f: [i32; 6], root: i16, degree: usize) -> [i32; 6]
+fn raise(f: [i32; 6], root: Q15, degree: usize) -> [i32; 6]
     requires { ⌜ (2 ≤ degree) × (degree ≤ 5) ⌝ }
-    ensures { λ r. ⌜ take (degree + 1) r ≡ raised (take degree f) root ⌝ }
+    ensures { λ r. ⌜ take (degree + 1) r ≡ raised (take degree f) (root .0) ⌝ }
 {
     let mut e = f;
     e[degree] = f[degree - 2];
     let mut r = e;
-    r[1] = l_msu(e[1], root, 512);
+    r[1] = l_msu(e[1], root.0, 512);
     for j in 2..degree + 1 {
         r[j] = raised_from(e[j], e[j - 1], e[j - 2], root);
     }
@@ -95,7 +96,7 @@ fn polynomial(lsp: [i16; 10], offset: usize, degree: usize) -> [i32; 6]
         return [16777216, l_msu(0, lsp[offset], 512), 0, 0, 0, 0];
     }
     let lower = polynomial(lsp, offset, degree - 1);
-    raise(lower, lsp[offset + 2 * (degree - 1)], degree)
+    raise(lower, Q15(lsp[offset + 2 * (degree - 1)]), degree)
 }
 
 pub fn rounded_coefficient(value: i32) -> i16

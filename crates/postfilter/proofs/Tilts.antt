@@ -19,9 +19,11 @@ use Rattle.basicop.proofs.Shift.{asr-mono}
 use Rattle.basicop.proofs.Naturals.{mult-pos}
 use Rattle.basicop.proofs.Tests.{at-most-no}
 use Rattle.basicop.proofs.Division.{div-s-less}
-use Rattle.postfilter.proofs.Correlations.{energy-start, r1-le-r0, r0-fits}
+use Rattle.energy.specs.Energy.{squares}
+use Rattle.energy.proofs.Sums.{squares-start}
+use Rattle.postfilter.proofs.Correlations.{r1-le-r0, r0-fits}
 use Rattle.postfilter.proofs.Impulses.{response-first, response-some}
-use Rattle.postfilter.specs.Tilt.{energy, r0, r1, tiltOf, response, tilt}
+use Rattle.postfilter.specs.Tilt.{r0, r1, tiltOf, response, tilt}
 use Rattle.postfilter.specs.Tilted.{Tilted}
 
 -- ---- the division: for 0 < a ≤ b, both of sixteen bits
@@ -102,7 +104,7 @@ pub divisor-from : (a : List ℤ) → at a 0 ≡ pos 4096 → pos 512 ≤ℤ r0 
 unfolding asr
 divisor-from a e =
     let h = response a in
-    asr-mono (pos 33554432) (energy h) 16 (rw (response-first a e) at (energy-start h (response-some a)))
+    asr-mono (pos 33554432) (squares h) 16 (rw (response-first a e) at (squares-start h (response-some a)))
 
 pub tilted : (a : List ℤ) → Tilted a
 unfolding tilt

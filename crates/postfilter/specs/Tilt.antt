@@ -8,6 +8,7 @@ use lib.Signed.{leZ}
 use Rattle.lists.specs.Lists.{at, iter}
 use Rattle.basicop.specs.Ops.{mult, L-mac, extract-h}
 use Rattle.basicop.specs.Divided.{Divided, undivided, divided}
+use Rattle.energy.specs.Energy.{squares}
 use Rattle.synthesis.specs.Synthesis.{samples}
 use Rattle.postfilter.specs.Weight.{numerator, denominator, weighted}
 
@@ -15,14 +16,7 @@ use Rattle.postfilter.specs.Weight.{numerator, denominator, weighted}
 unfoldable pub impulse : List ℤ → List ℤ → List ℤ
 impulse num den = samples 10 den (num ++ replicate 11 (pos 0)) (replicate 10 (pos 0))
 
--- L_mac over h[0] h[0], h[1] h[1], .. from 0: the first is L_mult
-abbrev pub energyStep : List ℤ → ℕ → ℤ → ℤ
-energyStep h k s = L-mac s (at h k) (at h k)
-
-unfoldable pub energy : List ℤ → ℤ
-energy h = iter (energyStep h) (length h) (pos 0)
-
--- L_mac over h[0] h[1], h[1] h[2], .. so too
+-- L_mac over h[0] h[1], h[1] h[2], .. from 0: the first is L_mult
 abbrev pub correlationStep : List ℤ → ℕ → ℤ → ℤ
 correlationStep h k s = L-mac s (at h k) (at h (suc k))
 
@@ -30,7 +24,7 @@ unfoldable pub correlation : List ℤ → ℤ
 correlation h = iter (correlationStep h) (length h - 1) (pos 0)
 
 abbrev pub r0 : List ℤ → ℤ
-r0 h = extract-h (energy h)
+r0 h = extract-h (squares h)
 
 abbrev pub r1 : List ℤ → ℤ
 r1 h = extract-h (correlation h)

@@ -9,7 +9,7 @@ ghost use Rattle.lists.specs.Lists.{at};
 ghost use Rattle.synthesis.specs.Pass.{weight};
 ghost use Rattle.postfilter.specs.Weight.{weighted};
 ghost use Rattle.postfilter.specs.Residual.{residualSum, residual};
-ghost use Rattle.postfilter.specs.Tilt.{impulse, energy, correlation, tiltOf};
+ghost use Rattle.postfilter.specs.Tilt.{impulse, correlation, tiltOf};
 ghost use Rattle.postfilter.specs.Preemphasis.{emphasised, preemphasised};
 ghost use Rattle.postfilter.specs.Postfilter.{filtered, rowAt, part, processed};
 use basicop::div_s;
@@ -141,17 +141,6 @@ fn impulse(numerator: [i16; 11], denominator: [i16; 11]) -> [i16; 22]
     first_22(samples)
 }
 
-// Each sample by itself.
-fn energy(h: [i16; 22]) -> i32
-    ensures { λ r. ⌜ r ≡ energy h ⌝ }
-{
-    let mut s = 0;
-    for k in 0..22 {
-        s = l_mac(s, h[k], h[k]);
-    }
-    s
-}
-
 // Each sample by the next.
 fn correlation(h: [i16; 22]) -> i32
     ensures { λ r. ⌜ r ≡ correlation h ⌝ }
@@ -171,7 +160,7 @@ fn tilt_of(h: [i16; 22]) -> i16
     if r1 <= 0 {
         return 0;
     }
-    let r0 = extract_h(energy(h));
+    let r0 = extract_h(energy::squares(&h));
     div_s(mult(r1, 26214), r0)
 }
 

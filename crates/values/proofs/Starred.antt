@@ -4,11 +4,11 @@ use Rattle.basicop.specs.Ops.{clamp, asr, wrap, add, sub, mult, L-add, L-sub, L
 use Rattle.pitch.specs.Lag.{absolute, relative, lag-min}
 use Rattle.spectral.specs.Lsp.{cosine, between, lspOf}
 use Rattle.energy.specs.Energy.{squares, energy}
-use Rattle.energy.specs.Root.{inverseTable, rootScaled, rootIndex, rootFraction, rootBetween, inverseRoot}
+use Rattle.energy.specs.Root.{inverseTable, rootScaled, inverseRoot}
 use Rattle.synthesis.specs.Fed.{outside, fed, numbersOf, leaves, leavesAt}
 use Rattle.synthesis.specs.Synthesis.{acc, accs}
 use Rattle.values.specs.Starred.{starred, Hold}
 
 pub starred-hold : Hold starred
-unfolding starred absolute relative lag-min lspOf between cosine add sub mult L-add L-mult L-sub L-shl L-shr-r L-deposit-h wrap asr clamp norm-l doublings energy squares inverseRoot rootScaled rootIndex rootFraction rootBetween inverseTable acc accs fed numbersOf leaves leavesAt outside
+unfolding starred absolute relative lag-min lspOf between cosine add sub mult L-add L-mult L-sub L-shl L-shr-r L-deposit-h wrap asr clamp norm-l doublings energy squares inverseRoot rootScaled inverseTable acc accs fed numbersOf leaves leavesAt outside
 starred-hold = (refl, (refl, (refl, (refl, (refl, (refl, (refl, (refl, (refl, (refl, (refl, (refl, (refl, (refl, (refl, (refl, (refl, (refl, tt))))))))))))))))))

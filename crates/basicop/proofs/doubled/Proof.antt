@@ -1,3 +1,4 @@
+-- `doubled` meets its contract: the call is the definition's.
 use Rattle.basicop.proofs.Calls.{needsℤ, callsℤ}
 use Rattle.basicop.proofs.doubled.Statement.{statement}
 use Rattle.basicop.proofs.doubled.Tie as tie

@@ -38,7 +38,7 @@ returns-2 : (t : ℕ) → lts.Need-returns-2 (l-msu-reads.Asked, l-msu-reads.Lea
 returns-2 t c =
     let p = c .before .before in
     let a = p .before .before .args in
-    polynomial-more (a .t1) (a .offset) (a .degree) (p .polynomial .result) (search needs) (search needs) (p .polynomial .ensures) (back w16 (c .before .raise-arg .given)) (c .raise .ensures)
+    polynomial-more (a .t1) (a .offset) (a .degree) (p .polynomial .result) (search needs) (search needs) (p .polynomial .ensures) (back w16 (c .before .t19 .given)) (c .raise .ensures)
 
 pub +polynomial-spec : {M : Type 1} → statement M
 +polynomial-spec =

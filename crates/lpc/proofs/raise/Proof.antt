@@ -1,9 +1,11 @@
+-- `raise` meets its contract: coefficients 0 and 1 first, then its loop fills the rest.
 use Prim.Native.Nat.{_+_, _-_, _≤_}
 use borrow.Author.Needs.{needs}
 use mathlib.Core.Path.{_∙_}
 use lib.ListN.{set}
 use mir.Syntax.{w16, w32}
-use mir.Val.{toZ, ofZ}
+use mir.Val.{SFits, toZ, ofZ}
+use mir.Facts.{toZ-ofZ}
 use Rattle.lists.specs.Lists.{at}
 use Rattle.lists.proofs.Signed.{back, got}
 use Rattle.lists.proofs.Entries.{length-tab}
@@ -13,22 +15,23 @@ use Rattle.lpc.proofs.raise.Statement.{statement}
 use Rattle.lpc.proofs.raise.Tie as tie
 
 abbrev Inv-loop : tie.InvT-loop
-Inv-loop root degree e r₀ j₀ j-end r j = (2 ≤ j) × ((j ≤ degree + 1) × Filled (degree + 1) 6 (step e (toZ w16 root) (degree + 1)) r j)
+Inv-loop root degree e r₀ j₀ j-end r j = (2 ≤ j) × ((j ≤ degree + 1) × Filled (degree + 1) 6 (step e (root .0) (degree + 1)) r j)
 
 abbrev μ-loop : tie.MeasureT-loop
 μ-loop root degree e r₀ j₀ j-end r j = j-end - j
 
 loop-holds : tie.Need-loop-holds Inv-loop μ-loop
 loop-holds c =
-    let a = c .before .before .before .args in
+    let a = c .before .before .before .before .args in
     let e = set (a .t1) (a .degree) (toZ w32 (ofZ w32 (at (a .t1) (a .degree - 2)))) in
-    let x = toZ w16 (ofZ w16 (a .root)) in
+    let x = a .root .0 in
+    let f : SFits w16 x = search needs in
     let n = a .degree + 1 in (
       search needs,
       (
         search needs,
         fill-more {out = e} (fill-keep (fill-none (length-tab _ n) (search needs)) (step-zero e x n (search needs)) (search needs) (search needs))
-            (got w32 (c .l-msu .ok) (c .l-msu .ensures ∙ step-one e x n (search needs) (back w32 (c .before .l-msu-arg .given))))
+            (got w32 (c .l-msu .ok) (c .l-msu .ensures ∙ rw (toZ-ofZ f) (step-one e x n (search needs) (back w32 (c .before .before .l-msu-arg .given)))))
             (search needs) (search needs),
       ),
     )
@@ -36,7 +39,7 @@ loop-holds c =
 loop-again : tie.Need-loop-again Inv-loop μ-loop
 loop-again c =
     let l = c .before .before .before .before .before in
-    let a = l .before .before .before .before .args in (
+    let a = l .before .before .before .before .before .args in (
       search needs,
       (
         search needs,
@@ -48,8 +51,9 @@ loop-again c =
 
 returns : tie.Need-returns Inv-loop μ-loop
 returns c =
-    let a = c .before .before .before .before .before in
-    fill-done (c .before .loop .inv .1 .1) (search needs) ∙ rw (back w32 (c .before .before .before .before .e .given), back w16 (a .fits .root .sfits)) (step-is (a .args .t1) (a .args .root) (a .args .degree) (search needs) (search needs))
+    let e = c .before .before .before .before .before in
+    let a = e .before .args in
+    fill-done (c .before .loop .inv .1 .1) (search needs) ∙ rw (back w32 (e .e .given)) (step-is (a .t1) (a .root .0) (a .degree) (search needs) (search needs))
 
 pub raise-spec : {M : Type 1} → statement M
 raise-spec =
