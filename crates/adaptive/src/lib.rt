@@ -8,6 +8,7 @@ ghost use lib.ListN.{take};
 ghost use Rattle.pitch.specs.Lag.{lagOf};
 ghost use Rattle.adaptive.specs.Predict.{inter6, phase, start, interpolated, extended, predicted};
 ghost use Rattle.adaptive.specs.Plain.{tap, row, rows, leftOf, rightOf, Light, large, loud, Quiet};
+use copy::copy;
 use pitch::Fraction;
 use pitch::PitchLag;
 
@@ -172,9 +173,7 @@ fn opened(history: [i16; 154]) -> [i16; 194]
     ensures { λ r. ⌜ take 154 r ≡ history ⌝ }
 {
     let mut buffer: [i16; 194] = [0; 194];
-    for i in 0..154 {
-        buffer[i] = history[i];
-    }
+    copy(&mut buffer[0..154], &history);
     buffer
 }
 
@@ -203,8 +202,6 @@ pub fn predict(history: [i16; 154], lag: PitchLag) -> [i16; 40]
 {
     let buffer = extended(history, lag);
     let mut samples: [i16; 40] = [0; 40];
-    for n in 0..40 {
-        samples[n] = buffer[154 + n];
-    }
+    copy(&mut samples, &buffer[154..194]);
     samples
 }

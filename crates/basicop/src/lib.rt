@@ -177,14 +177,14 @@ pub fn shr(x: i16, n: i16) -> i16
 }
 
 // each sample >> 2
-pub fn quarter(samples: [i16; 40]) -> [i16; 40]
-    ensures { λ r. ⌜ r ≡ quartered samples ⌝ }
+pub fn quarter(samples: &mut [i16])
+    ensures { λ _. ⌜ now (samples .exit) ≡ quartered (now (samples .entry)) ⌝ }
 {
-    let mut r = samples;
-    for i in 0..40 {
-        r[i] = shr(samples[i], 2);
+    let mut i = 0;
+    while i < samples.len() {
+        samples[i] = shr(samples[i], 2);
+        i += 1;
     }
-    r
 }
 
 // The bit that is added is x >> (n - 1) less twice x >> n.

@@ -15,7 +15,8 @@ use Rattle.lpc.specs.declared.Rows.{Rows}
 use Rattle.state.specs.declared.State.{State}
 use Rattle.state.specs.Outcome.{isAccepted}
 use Rattle.coding.specs.Bytes.{words, bytesOf}
-use Rattle.coding.proofs.Laid.{bytes-length, bytes-append, laid-none, laid-more, laid-done}
+use Rattle.lists.proofs.Put.{laid-none, laid-more, laid-done}
+use Rattle.coding.proofs.Laid.{bytes-length, bytes-append}
 use Rattle.mr74.specs.declared.FrameAnswer.{FrameAnswer}
 use Rattle.mr74.specs.Frame.{called, frameCall}
 use Rattle.mr74.proofs.Passed.{passed}

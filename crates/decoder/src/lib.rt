@@ -10,6 +10,7 @@ ghost use Rattle.spectral.specs.Lsp.{Frequencies};
 use basicop::Q1;
 use basicop::Q14;
 use basicop::Q15;
+use copy::copy;
 use lpc::Rows;
 use pitch::PitchLag;
 
@@ -83,14 +84,17 @@ pub fn synthesise(
     let first = synthesis::preview(row, excitation, history);
     let place = first.place;
     if place < 40 {
-        let quarter = basicop::quarter(feedback);
+        let mut quarter = feedback;
+        basicop::quarter(&mut quarter);
+        let mut quarter_past = past;
+        basicop::quarter(&mut quarter_past);
         let again = synthesis::filter(row, quarter, history);
         let samples = again.samples;
         return Synthesised {
             place,
             samples,
             feedback: quarter,
-            past: excitation::take_in(excitation::quarter_past(past), quarter),
+            past: excitation::take_in(quarter_past, quarter),
         };
     }
     let samples = first.samples;
@@ -162,14 +166,13 @@ pub fn turn(core: Core, row: [i16; 11], p: Parameters) -> Turned
 }
 
 // The frame with the samples of a subframe in their place.
-pub fn put(frame: [i16; 160], samples: [i16; 40], subframe: usize) -> [i16; 160]
+fn put(frame: [i16; 160], samples: [i16; 40], subframe: usize) -> [i16; 160]
     requires { ⌜ subframe < 4 ⌝ }
     ensures { λ r. ⌜ take (40 * subframe + 40) r ≡ take (40 * subframe) frame ++ samples ⌝ }
 {
+    let from = 40 * subframe;
     let mut r = frame;
-    for i in 0..40 {
-        r[40 * subframe + i] = samples[i];
-    }
+    copy(&mut r[from..from + 40], &samples);
     r
 }
 

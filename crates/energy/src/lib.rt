@@ -47,7 +47,9 @@ pub fn energy(samples: [i16; 40]) -> i32
 {
     let sum = squares(samples);
     if 2147483646 < sum {
-        return squares(quarter(samples));
+        let mut quarters = samples;
+        quarter(&mut quarters);
+        return squares(quarters);
     }
     sum >> 4
 }

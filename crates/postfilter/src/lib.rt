@@ -2,16 +2,16 @@
 ghost use mathlib.Core.Path.{_≡_};
 ghost use mathlib.Core.Bool.{false};
 ghost use mathlib.Core.List.{_++_};
-ghost use Prim.Native.Nat.{_+_, _*_, _<_, _≤_};
+ghost use Prim.Native.Nat.{_<_, _≤_};
 ghost use lib.IntN.{pos};
-ghost use lib.ListN.{length, take, replicate};
+ghost use lib.ListN.{length, replicate};
 ghost use Rattle.lists.specs.Lists.{at};
 ghost use Rattle.synthesis.specs.Pass.{weight};
 ghost use Rattle.postfilter.specs.Weight.{weighted};
 ghost use Rattle.postfilter.specs.Residual.{residualSum, residual};
 ghost use Rattle.postfilter.specs.Tilt.{impulse, energy, correlation, tiltOf};
 ghost use Rattle.postfilter.specs.Preemphasis.{emphasised, preemphasised};
-ghost use Rattle.postfilter.specs.Postfilter.{filtered, rowAt, part, processed};
+ghost use Rattle.postfilter.specs.Postfilter.{filtered, rowAt, processed};
 use basicop::div_s;
 use basicop::extract_h;
 use basicop::l_mac;
@@ -21,6 +21,7 @@ use basicop::mac;
 use basicop::mult;
 use basicop::round;
 use basicop::sub;
+use copy::copy;
 use energy::GainControl;
 use lpc::Rows;
 use synthesis::light;
@@ -64,25 +65,13 @@ fn weight(coefficients: [i16; 11], factors: &[i16; 10]) -> [i16; 11]
 }
 
 // ---- Residu
-// The ten inputs before, with room for forty.
-fn opened(history: [i16; 10]) -> [i16; 50]
-    ensures { λ r. ⌜ take 10 r ≡ history ⌝ }
+// The ten inputs before, then forty.
+fn joined(history: [i16; 10], samples: [i16; 40]) -> [i16; 50]
+    ensures { λ r. ⌜ r ≡ history ++ samples ⌝ }
 {
     let mut r = [0i16; 50];
-    for i in 0..10 {
-        r[i] = history[i];
-    }
-    r
-}
-
-// Forty after the first ten.
-fn joined(opened: [i16; 50], samples: [i16; 40]) -> [i16; 50]
-    ensures { λ r. ⌜ r ≡ take 10 opened ++ samples ⌝ }
-{
-    let mut r = opened;
-    for i in 0..40 {
-        r[10 + i] = samples[i];
-    }
+    copy(&mut r[0..10], &history);
+    copy(&mut r[10..50], &samples);
     r
 }
 
@@ -102,7 +91,7 @@ fn residual(numerator: [i16; 11], history: [i16; 10], samples: [i16; 40]) -> [i1
     ensures { λ r. ⌜ r ≡ residual numerator (history ++ samples) ⌝ }
 {
     let clamped = !light(&numerator);
-    let x = joined(opened(history), samples);
+    let x = joined(history, samples);
     let mut r = [0i16; 40];
     for n in 0..40 {
         r[n] = round(l_shl(residual_sum(&numerator, &x, n + 10, clamped), 3));
@@ -116,20 +105,7 @@ fn padded(row: [i16; 11]) -> [i16; 40]
     ensures { λ r. ⌜ r ≡ row ++ replicate 29 (pos 0) ⌝ }
 {
     let mut r = [0i16; 40];
-    for i in 0..11 {
-        r[i] = row[i];
-    }
-    r
-}
-
-// Of forty samples, the 22 that were made.
-fn first_22(samples: [i16; 40]) -> [i16; 22]
-    ensures { λ r. ⌜ r ≡ take 22 samples ⌝ }
-{
-    let mut r = [0i16; 22];
-    for i in 0..22 {
-        r[i] = samples[i];
-    }
+    copy(&mut r[0..11], &row);
     r
 }
 
@@ -138,7 +114,9 @@ fn impulse(numerator: [i16; 11], denominator: [i16; 11]) -> [i16; 22]
     ensures { λ r. ⌜ r ≡ impulse numerator denominator ⌝ }
 {
     let samples = synthesis::first_samples(denominator, padded(numerator), [0i16; 10], 22);
-    first_22(samples)
+    let mut r = [0i16; 22];
+    copy(&mut r, &samples[0..22]);
+    r
 }
 
 // Each sample by itself.
@@ -266,30 +244,19 @@ fn row_of(rows: Rows, subframe: usize) -> [i16; 11]
     }
 }
 
-// The samples of a subframe.
-fn part(samples: [i16; 160], subframe: usize) -> [i16; 40]
-    requires { ⌜ subframe < 4 ⌝ }
-    ensures { λ r. ⌜ r ≡ part samples subframe ⌝ }
-{
-    let mut r = [0i16; 40];
-    for i in 0..40 {
-        r[i] = samples[40 * subframe + i];
-    }
-    r
-}
-
 pub fn process(memory: Postfilter, samples: [i16; 160], rows: Rows) -> Frame
     ensures { λ r. ⌜ r ≡ processed memory rows samples .output ⌝ }
 {
     let mut out = samples;
     let mut carried = memory;
     for k in 0..4 {
+        let from = 40 * k;
         let row = row_of(rows, k);
-        let input = part(samples, k);
+        let mut input = [0i16; 40];
+        copy(&mut input, &samples[from..from + 40]);
         let filtered = filter(carried, row, input);
         let made = filtered.samples;
-        let next = decoder::put(out, made, k);
-        out = next;
+        copy(&mut out[from..from + 40], &made);
         let left = filtered.memory;
         carried = left;
     }

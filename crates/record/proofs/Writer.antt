@@ -14,7 +14,8 @@ use Rattle.state.specs.declared.Outcome.the-variants.{OutputLength}
 use Rattle.state.specs.Outcome.{firstMet, isAccepted}
 use Rattle.state.specs.State.{stateVerdict, numbersOf}
 use Rattle.coding.specs.Bytes.{bytesOf}
-use Rattle.coding.proofs.Laid.{bytes-length, Laid, laid-none, laid-more, laid-done}
+use Rattle.lists.proofs.Put.{Laid, laid-none, laid-more, laid-done}
+use Rattle.coding.proofs.Laid.{bytes-length}
 use Rattle.record.specs.Record.{trailerBytes, encoded, writeRows, written, writeCall}
 
 -- the first two bytes are set

@@ -13,6 +13,7 @@ use basicop::l_msu;
 use basicop::l_mult;
 use basicop::l_shl;
 use basicop::round;
+use copy::copy;
 
 // What the first pass gives: the samples before `place`, the first at which a step leaves 32 bits, and zeros from there on;
 // all forty where none does and the place is 40.
@@ -33,9 +34,7 @@ fn roomed(history: [i16; 10]) -> [i16; 50]
     ensures { λ r. ⌜ (r ≡ history ++ replicate 40 (pos 0)) × (take 10 r ≡ history) ⌝ }
 {
     let mut buf = [0i16; 50];
-    for i in 0..10 {
-        buf[i] = history[i];
-    }
+    copy(&mut buf[0..10], &history);
     buf
 }
 
@@ -44,9 +43,7 @@ fn after_history(buf: [i16; 50]) -> [i16; 40]
     ensures { λ r. ⌜ r ≡ drop 10 buf ⌝ }
 {
     let mut out = [0i16; 40];
-    for i in 0..40 {
-        out[i] = buf[i + 10];
-    }
+    copy(&mut out, &buf[10..50]);
     out
 }
 
@@ -55,9 +52,7 @@ pub fn newest(samples: [i16; 40]) -> [i16; 10]
     ensures { λ r. ⌜ r ≡ newest 10 samples ⌝ }
 {
     let mut out = [0i16; 10];
-    for i in 0..10 {
-        out[i] = samples[i + 30];
-    }
+    copy(&mut out, &samples[30..40]);
     out
 }
 

@@ -11,10 +11,10 @@ use Rattle.energy.proofs.energy.Tie as tie
 
 returns : tie.Need-returns
 returns c =
-    let q = c .before in
-    let s = q .before .before in
+    let q = c .before .before in
+    let s = q .before .before .before in
     got w32 (c .squares2 .ok) (c .squares2 .ensures ∙ ap squares (q .quarter .ensures))
-    ∙ energy-again (s .before .args .samples) (less-yes (rw (got w32 (s .squares .ok) (s .squares .ensures)) at (q .before .if1 .taken)))
+    ∙ energy-again (s .before .args .samples) (less-yes (rw (got w32 (s .squares .ok) (s .squares .ensures)) at (q .before .before .if1 .taken)))
 
 returns-2 : tie.Need-returns-2
 returns-2 c =
@@ -23,4 +23,4 @@ returns-2 c =
     ∙ energy-once (s .before .args .samples) (less-no (rw (got w32 (s .squares .ok) (s .squares .ensures)) at (c .if1 .left)))
 
 pub energy-spec : {M : Type 1} → statement M
-energy-spec = tie.close (tie.spec (λ c κs. search needs) (λ c κs. search needs) (λ c κs. search needs) returns returns-2)
+energy-spec = tie.close (tie.spec (λ c κs. search needs) (λ c. search needs) (λ c κs. search needs) (λ c κs. search needs) returns returns-2)

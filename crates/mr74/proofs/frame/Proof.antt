@@ -1,4 +1,4 @@
-use mathlib.Core.Path.{ap, sym, _∙_}
+use mathlib.Core.Path.{_≡_, ap, sym, _∙_}
 use borrow.Author.Needs.{needs}
 use denote.Ref.{now}
 use lib.ListN.{length}
@@ -18,13 +18,16 @@ shown c =
 decode-requires : tie.Need-decode-requires
 decode-requires c κs = shown c .ready
 
+made : (c : tie.After-decode) → length (c .decode .result .samples) ≡ 160
+made c = search needs
+
 copy-requires : tie.Need-copy-requires
-copy-requires c κs = shown (c .before .before .before) .lent
+copy-requires c κs = shown (c .before .before .before .before) .lent ∙ sym (made (c .before .before .before))
 
 returns : tie.Need-returns
 returns c =
     let k = c .before .before .before .before in
-    let d = k .before .before .before in
+    let d = k .before .before .before .before in
     let t = d .before in
     let v = t .before .before in
     let a = v .before .args in
@@ -44,6 +47,7 @@ frame-spec =
     (λ c κs. search needs)
     (λ c κs. search needs)
     decode-requires
+    (λ c. search needs)
     copy-requires
     (λ c. search needs)
     returns

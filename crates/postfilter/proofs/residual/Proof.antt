@@ -24,7 +24,7 @@ loop-holds c = (search needs, fill-none (length-tab _ 40) (search needs))
 residual-sum-requires : tie.Need-residual-sum-requires Inv-loop μ-loop
 residual-sum-requires c κs =
     let l = c .before .before .before in
-    (search needs, (search needs, λ q. ltb-true _ 32768 (sym (l .before .before .before .light .ensures) ∙ not-false _ q)))
+    (search needs, (search needs, λ q. ltb-true _ 32768 (sym (l .before .before .light .ensures) ∙ not-false _ q)))
 
 loop-again : tie.Need-loop-again Inv-loop μ-loop
 unfolding residual
@@ -32,14 +32,13 @@ loop-again c =
     let m = c .before .before in
     let l = m .before .before .before .before in
     let x = l .before .joined .result in
-    let a = l .before .before .before .before .before .args .t1 in
+    let a = l .before .before .before .before .args .t1 in
     let e : toZ w16 (ofZ w16 (c .round .result)) ≡ residualAt a x (l .loop .n + 10) = cc (got w16 (c .round .ok) (c .round .ensures), got w32 (c .before .l-shl .ok) (c .before .l-shl .ensures), got w32 (m .residual-sum .ok) (m .residual-sum .ensures)) in
     (search needs, fill-more (l .loop .inv .1) (e ∙ at-tab (λ (n : ℕ). residualAt a x (n + 10)) 40 (l .loop .n) (search needs)) (search needs) (search needs))
 
 returns : tie.Need-returns Inv-loop μ-loop
 returns c =
-    let j = c .before .before in
-    fill-whole (c .before .loop .inv .1) (search needs) ∙ rw (j .joined .ensures, j .before .opened .ensures)
+    fill-whole (c .before .loop .inv .1) (search needs) ∙ rw (c .before .before .joined .ensures)
 
 pub residual-spec : {M : Type 1} → statement M
 residual-spec =
@@ -47,7 +46,6 @@ residual-spec =
     (tie.spec
     Inv-loop
     μ-loop
-    (λ c κs. search needs)
     (λ c κs. search needs)
     (λ c κs. search needs)
     loop-holds
