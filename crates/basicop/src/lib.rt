@@ -16,7 +16,7 @@ pub struct Q14(pub i16);
 // Code gain.
 pub struct Q1(pub i16);
 
-// Sharpening, doubled.
+// Sharpening, doubled; the postfilter's tilt.
 pub struct Q15(pub i16);
 
 // A 32-bit number in two halves, the standard's double precision format: hi * 65536 + lo * 2.

@@ -52,7 +52,7 @@ fn enhanced(feedback: [i16; 40], adaptive: [i16; 40], doubled: Q15, pitch: Q14) 
 }
 
 // The first excitation of the synthesis.
-pub fn first_excitation(adaptive: [i16; 40], pitch: Q14, feedback: [i16; 40]) -> [i16; 40]
+fn first_excitation(adaptive: [i16; 40], pitch: Q14, feedback: [i16; 40]) -> [i16; 40]
     ensures { λ r. ⌜ r ≡ firstExcitation adaptive (pitch .0) feedback .value ⌝ }
 {
     let doubled = basicop::doubled(excitation::next_sharpening(pitch));
@@ -72,7 +72,7 @@ pub struct Synthesised {
 }
 
 // Syn_filt on the first excitation; where a step clamps, feedback and past are quartered and it runs again on that feedback.
-pub fn synthesise(
+fn synthesise(
     row: [i16; 11],
     feedback: [i16; 40],
     excitation: [i16; 40],
@@ -138,7 +138,7 @@ pub struct Turned {
 }
 
 // The subframe step.
-pub fn turn(core: Core, row: [i16; 11], p: Parameters) -> Turned
+fn turn(core: Core, row: [i16; 11], p: Parameters) -> Turned
     requires { ⌜ (19 ≤ p .lag .samples) × (p .lag .samples ≤ 144) ⌝ }
     ensures { λ r. ⌜ r ≡ toldTurn (turn core row p) ⌝ }
 {

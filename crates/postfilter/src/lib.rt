@@ -12,6 +12,7 @@ ghost use Rattle.postfilter.specs.Residual.{residualSum, residual};
 ghost use Rattle.postfilter.specs.Tilt.{impulse, energy, correlation, tiltOf};
 ghost use Rattle.postfilter.specs.Preemphasis.{emphasised, preemphasised};
 ghost use Rattle.postfilter.specs.Postfilter.{filtered, rowAt, processed};
+use basicop::Q15;
 use basicop::div_s;
 use basicop::extract_h;
 use basicop::l_mac;
@@ -142,27 +143,27 @@ fn correlation(h: [i16; 22]) -> i32
 }
 
 // 26214 is 0.8 (Q15). The correlation is at most the energy, so that the division is in order: `tilt-asks`.
-fn tilt_of(h: [i16; 22]) -> i16
-    ensures { λ r. ⌜ r ≡ tiltOf h .value ⌝ }
+fn tilt_of(h: [i16; 22]) -> Q15
+    ensures { λ r. ⌜ r .0 ≡ tiltOf h .value ⌝ }
 {
     let r1 = extract_h(correlation(h));
     if r1 <= 0 {
-        return 0;
+        return Q15(0);
     }
     let r0 = extract_h(energy(h));
-    div_s(mult(r1, 26214), r0)
+    Q15(div_s(mult(r1, 26214), r0))
 }
 
 // ---- preemphasis
-fn emphasised(residual: i16, before: i16, tilt: i16) -> i16
-    ensures { λ r. ⌜ r ≡ emphasised tilt residual before ⌝ }
+fn emphasised(residual: i16, before: i16, tilt: Q15) -> i16
+    ensures { λ r. ⌜ r ≡ emphasised (tilt .0) residual before ⌝ }
 {
-    sub(residual, mult(tilt, before))
+    sub(residual, mult(tilt.0, before))
 }
 
 // Each residual, less the tilt times the one before it as it was.
-fn preemphasis(residual: [i16; 40], tilt: i16, carried: i16) -> [i16; 40]
-    ensures { λ r. ⌜ r ≡ preemphasised tilt carried residual ⌝ }
+fn preemphasis(residual: [i16; 40], tilt: Q15, carried: i16) -> [i16; 40]
+    ensures { λ r. ⌜ r ≡ preemphasised (tilt .0) carried residual ⌝ }
 {
     let mut r = residual;
     let mut previous = carried;
@@ -182,12 +183,12 @@ struct Excited {
 
 fn excitation(
     numerator: [i16; 11],
-    tilt: i16,
+    tilt: Q15,
     history: [i16; 10],
     carried: i16,
     samples: [i16; 40],
 ) -> Excited
-    ensures { λ r. ⌜ (r .samples ≡ preemphasised tilt carried (residual numerator (history ++ samples))) × (r .last ≡ at (residual numerator (history ++ samples)) 39) ⌝ }
+    ensures { λ r. ⌜ (r .samples ≡ preemphasised (tilt .0) carried (residual numerator (history ++ samples))) × (r .last ≡ at (residual numerator (history ++ samples)) 39) ⌝ }
 {
     let whitened = residual(numerator, history, samples);
     let out = preemphasis(whitened, tilt, carried);
@@ -198,7 +199,7 @@ fn excitation(
 }
 
 // One subframe, from its row and its synthesis samples.
-pub fn filter(memory: Postfilter, coefficients: [i16; 11], samples: [i16; 40]) -> Subframe
+fn filter(memory: Postfilter, coefficients: [i16; 11], samples: [i16; 40]) -> Subframe
     ensures { λ r. ⌜ r ≡ filtered memory coefficients samples .output ⌝ }
 {
     let numerators = NUMERATOR;
