@@ -1,13 +1,13 @@
 // The basic operators of TS 26.073, each equal to its definition in specs/Ops.antt, under the standard's names in lower case.
 ghost use mathlib.Core.Path.{_≡_};
-ghost use mathlib.Core.Bool.{false};
+ghost use mathlib.Core.Bool.{true};
 ghost use Prim.Native.Nat.{min, _-_, _<_, _^_};
 ghost use lib.Count.{leadingZeros};
 ghost use lib.IntN.{pos, negℤ, _*ℤ_};
 ghost use lib.Signed.{_≤ℤ_, _<ℤ_};
 ghost use mir.Syntax.{w16, w32};
 ghost use Rattle.basicop.specs.Ops.{clamp, asr, modZ, add, sub, mult, shl, shr, quartered, L-add, L-sub, L-mult, L-mac, L-msu, L-shl, L-shr, L-shr-r, extract-h, extract-l, round, L-deposit-h, norm-l, div-s, L-Extract, Mpy-32-16};
-ghost use Rattle.basicop.specs.Unclamped.{Unclamped};
+ghost use Rattle.basicop.specs.Inner.{Unclamped};
 
 // A number that is handed on between functions has its scaling in its type: Qn is scaled by 2 ^ n.
 // Pitch gain and sharpening.
@@ -93,15 +93,15 @@ pub fn l_mac(s: i32, a: i16, b: i16) -> i32
     l_add(s, l_mult(a, b))
 }
 
-// L_mac by clamped steps, or by a plain product and sum where the caller has shown that no step clamps.
-pub fn mac(s: i32, a: i16, b: i16, clamped: bool) -> i32
-    requires { ⌜ (clamped ≡ false → Unclamped s a b) ⌝ }
+// L_mac by a plain product and sum where the caller has shown that no step clamps (`plain`), or by clamped steps.
+pub fn mac(s: i32, a: i16, b: i16, plain: bool) -> i32
+    requires { ⌜ (plain ≡ true → Unclamped s a b) ⌝ }
     ensures { λ r. ⌜ r ≡ L-mac s a b ⌝ }
 {
-    if clamped {
-        return l_mac(s, a, b);
+    if plain {
+        return s + 2 * ((a as i32) * (b as i32));
     }
-    s + 2 * ((a as i32) * (b as i32))
+    l_mac(s, a, b)
 }
 
 pub fn l_msu(s: i32, a: i16, b: i16) -> i32

@@ -1,12 +1,12 @@
 // The postfilter: Post_Filter of TS 26.073, with Weight_Ai, Residu and preemphasis.
 ghost use mathlib.Core.Path.{_≡_};
-ghost use mathlib.Core.Bool.{false};
+ghost use mathlib.Core.Bool.{true};
 ghost use mathlib.Core.List.{_++_};
 ghost use Prim.Native.Nat.{_<_, _≤_};
 ghost use lib.IntN.{pos};
 ghost use lib.ListN.{length, replicate};
 ghost use Rattle.lists.specs.Lists.{at};
-ghost use Rattle.synthesis.specs.Pass.{weight};
+ghost use Rattle.synthesis.specs.Inner.{weight};
 ghost use Rattle.postfilter.specs.Weight.{weighted};
 ghost use Rattle.postfilter.specs.Residual.{residualSum, residual};
 ghost use Rattle.postfilter.specs.Tilt.{impulse, energy, correlation, tiltOf};
@@ -76,14 +76,14 @@ fn joined(history: [i16; 10], samples: [i16; 40]) -> [i16; 50]
     r
 }
 
-// The sum for the input at a place. Where the weight of the row, |a0| + .. + |a10|, is below 32768 no step can clamp.
-fn residual_sum(a: &[i16; 11], x: &[i16; 50], place: usize, clamped: bool) -> i32
-    requires { ⌜ (10 ≤ place) × ((place < 50) × (clamped ≡ false → weight (now a) 10 < 32768)) ⌝ }
+// The sum for the input at a place. Where the weight of the row, |a0| + .. + |a10|, is below 32768 no step can clamp (`plain`).
+fn residual_sum(a: &[i16; 11], x: &[i16; 50], place: usize, plain: bool) -> i32
+    requires { ⌜ (10 ≤ place) × ((place < 50) × (plain ≡ true → weight (now a) < 32768)) ⌝ }
     ensures { λ r. ⌜ r ≡ residualSum (now (a .entry)) (now (x .entry)) place ⌝ }
 {
-    let mut s = mac(0, x[place], a[0], clamped);
+    let mut s = mac(0, x[place], a[0], plain);
     for j in 0..10 {
-        s = mac(s, a[j + 1], x[place - (j + 1)], clamped);
+        s = mac(s, a[j + 1], x[place - (j + 1)], plain);
     }
     s
 }
@@ -91,11 +91,11 @@ fn residual_sum(a: &[i16; 11], x: &[i16; 50], place: usize, clamped: bool) -> i3
 fn residual(numerator: [i16; 11], history: [i16; 10], samples: [i16; 40]) -> [i16; 40]
     ensures { λ r. ⌜ r ≡ residual numerator (history ++ samples) ⌝ }
 {
-    let clamped = !light(&numerator);
+    let plain = light(&numerator);
     let x = joined(history, samples);
     let mut r = [0i16; 40];
     for n in 0..40 {
-        r[n] = round(l_shl(residual_sum(&numerator, &x, n + 10, clamped), 3));
+        r[n] = round(l_shl(residual_sum(&numerator, &x, n + 10, plain), 3));
     }
     r
 }

@@ -1,3 +1,4 @@
+-- `energy::energy` meets its contract: the clamped sum tells whether the samples are quartered.
 use mathlib.Core.Path.{ap, _∙_}
 use borrow.Author.Needs.{needs}
 use mir.Syntax.{w32}

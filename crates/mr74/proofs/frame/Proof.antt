@@ -1,3 +1,4 @@
+-- `mr74::frame` meets its contract: an accepted call is decoded and copied, another refused.
 use mathlib.Core.Path.{_≡_, ap, sym, _∙_}
 use borrow.Author.Needs.{needs}
 use denote.Ref.{now}

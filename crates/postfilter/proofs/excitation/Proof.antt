@@ -1,3 +1,4 @@
+-- `postfilter::excitation` meets its contract: preemphasis of the residual, whose last is kept.
 use mathlib.Core.Path.{_∙_}
 use borrow.Author.Needs.{needs}
 use mir.Syntax.{w16}

@@ -1,3 +1,4 @@
+-- `postfilter::filter` meets its contract: the subframe by its steps.
 use mathlib.Core.Path.{_∙_}
 use borrow.Author.Needs.{needs}
 use Prim.Native.Nat.{_<_, _^_}

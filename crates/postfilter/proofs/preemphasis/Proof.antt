@@ -1,3 +1,4 @@
+-- `postfilter::preemphasis` meets its contract: the first i are emphasised, and `previous` is the residual before the next.
 use mathlib.Core.Path.{_≡_, refl, _∙_}
 use mathlib.Core.List.{_∷_}
 use Prim.Native.Nat.{_≤_, _-_}

@@ -1,7 +1,8 @@
+-- `postfilter::residual` meets its contract: the first n numbers are those of the residual.
 use mathlib.Core.Path.{_≡_, sym, _∙_}
 use Prim.Native.Nat.{ℕ, _+_, _≤_, _-_}
 use borrow.Author.Needs.{needs}
-use borrow.Author.Tests.{ltb-true, not-false}
+use borrow.Author.Tests.{ltb-true}
 use mir.Syntax.{w16, w32}
 use mir.Val.{toZ, ofZ}
 use Rattle.lists.proofs.Signed.{got}
@@ -12,10 +13,10 @@ use Rattle.postfilter.proofs.residual.Statement.{statement}
 use Rattle.postfilter.proofs.residual.Tie as tie
 
 abbrev Inv-loop : tie.InvT-loop
-Inv-loop numerator clamped x r₀ n₀ r n = (n ≤ 40) × Filled 40 40 (residual numerator x) r n
+Inv-loop numerator plain x r₀ n₀ r n = (n ≤ 40) × Filled 40 40 (residual numerator x) r n
 
 abbrev μ-loop : tie.MeasureT-loop
-μ-loop numerator clamped x r₀ n₀ r n = 40 - n
+μ-loop numerator plain x r₀ n₀ r n = 40 - n
 
 loop-holds : tie.Need-loop-holds Inv-loop μ-loop
 unfolding residual
@@ -24,7 +25,7 @@ loop-holds c = (search needs, fill-none (length-tab _ 40) (search needs))
 residual-sum-requires : tie.Need-residual-sum-requires Inv-loop μ-loop
 residual-sum-requires c κs =
     let l = c .before .before .before in
-    (search needs, (search needs, λ q. ltb-true _ 32768 (sym (l .before .before .light .ensures) ∙ not-false _ q)))
+    (search needs, (search needs, λ q. ltb-true _ 32768 (sym (l .before .before .light .ensures) ∙ q)))
 
 loop-again : tie.Need-loop-again Inv-loop μ-loop
 unfolding residual
