@@ -1,15 +1,15 @@
 -- The interpolation table: its length, and its rule by one test of every entry that antt computes. Assumes nothing.
 use mathlib.Core.Path.{_≡_, refl}
 use mathlib.Core.Bool.{Bool, not, _||_}
-use Prim.Native.Nat.{ℕ, _%_, _<_, _≤_}
+use Prim.Native.Nat.{ℕ, _+_, _%_, _<_, _≤_}
 use borrow.Author.Tests.{eq-eqb, lt-leb}
 use lib.Dec.{T, leb, eqb, leb→le}
 use lib.IntN.{ℤ, pos, natAbs, _-ℤ_}
 use lib.ListN.{length}
-use Rattle.lists.specs.Lists.{at, eqZ, iter}
+use Rattle.lists.specs.Lists.{at, eqZ}
 use Rattle.lists.proofs.Table.{both, both-left, both-right, at-each, eqZ→eq}
+use Rattle.basicop.specs.Inner.{sizes}
 use Rattle.adaptive.specs.Predict.{inter6, coefficient}
-use Rattle.adaptive.specs.Plain.{sizes}
 
 pub inter6-length : length inter6 ≡ 61
 unfolding inter6
@@ -41,16 +41,16 @@ inter6-zero k p h e =
 
 -- ---- the twenty coefficients of phase f: the sum of their sizes
 abbrev pub weight : ℕ → ℕ
-weight f = sizes (coefficient (pos f)) (coefficient (pos 6 -ℤ pos f)) 10
+weight f = sizes (coefficient (pos f)) 10 + sizes (coefficient (pos 6 -ℤ pos f)) 10
 
 pub weight-0 : weight 0 ≡ 53535
-unfolding inter6 iter
+unfolding inter6 sizes
 weight-0 = refl
 
 pub weight-2 : weight 2 ≡ 59398
-unfolding inter6 iter
+unfolding inter6 sizes
 weight-2 = refl
 
 pub weight-4 : weight 4 ≡ 59398
-unfolding inter6 iter
+unfolding inter6 sizes
 weight-4 = refl

@@ -9,15 +9,16 @@ use lib.Dec.{T, lit<}
 use lib.IntN.{ℤ, pos, _-ℤ_}
 use lib.ListN.{length, take}
 use lib.Seq.{take-all}
-use Rattle.lists.specs.Lists.{at, eqZ, iter, tab}
+use Rattle.lists.specs.Lists.{at, eqZ, tab}
 use Rattle.lists.proofs.Table.{all-below, below-each, eqZ→eq}
+use Rattle.basicop.specs.Inner.{sizes}
 use Rattle.basicop.proofs.Naturals.{minus}
 use Rattle.pitch.specs.Lag.{lagOf}
 use Rattle.pitch.specs.declared.Fraction.{Fraction}
 use Rattle.pitch.specs.declared.Fraction.the-variants.{MinusThird, Zero, PlusThird}
 use Rattle.pitch.specs.declared.PitchLag.{PitchLag}
 use Rattle.adaptive.specs.Predict.{inter6, phase, coefficient}
-use Rattle.adaptive.specs.Plain.{tap, row, rows, leftOf, rightOf, Light}
+use Rattle.adaptive.specs.Inner.{tap, row, rows, leftOf, rightOf, Light}
 use Rattle.adaptive.proofs.Places.{phaseOf, phase-is}
 
 pub tap-left : (f j : ℕ) → j < 10 → at inter6 (f + 6 * (9 - j)) ≡ tap f j
@@ -54,7 +55,7 @@ row-by f l r h =
     }
 
 row-of : (q : Fraction) → Row rows (phaseOf q)
-unfolding left-same right-same rows tab inter6 iter
+unfolding left-same right-same rows tab inter6 sizes
 row-of MinusThird = row-by 2 tt tt (lit< tt)
 row-of Zero = row-by 0 tt tt (lit< tt)
 row-of PlusThird = row-by 4 tt tt (lit< tt)

@@ -1,2 +1,2 @@
 pub mod Predict
-pub mod Plain
+pub mod Inner

@@ -1,13 +1,14 @@
 // The adaptive codebook: Pred_lt_3or6 of TS 26.073, in thirds.
 ghost use mathlib.Core.Path.{_≡_};
-ghost use mathlib.Core.Bool.{false};
+ghost use mathlib.Core.Bool.{true};
 ghost use mathlib.Core.List.{_++_};
 ghost use Prim.Native.Nat.{_+_, _*_, _<_, _≤_};
 ghost use lib.IntN.{pos};
 ghost use lib.ListN.{take};
 ghost use Rattle.pitch.specs.Lag.{lagOf};
 ghost use Rattle.adaptive.specs.Predict.{inter6, phase, start, interpolated, extended, predicted};
-ghost use Rattle.adaptive.specs.Plain.{tap, row, rows, leftOf, rightOf, Light, large, loud, Quiet};
+ghost use Rattle.adaptive.specs.Inner.{tap, row, rows, leftOf, rightOf, Light, large, quiet, Quiet};
+use copy::copy;
 use pitch::Fraction;
 use pitch::PitchLag;
 
@@ -142,27 +143,28 @@ fn large(x: i16) -> bool
     (x < -16384) | (16383 < x)
 }
 
-// A number of the history is large.
-fn loud(history: [i16; 154]) -> bool
-    ensures { λ r. ⌜ r ≡ loud history ⌝ }
+// No number of the history is large.
+fn quiet(history: [i16; 154]) -> bool
+    ensures { λ r. ⌜ r ≡ quiet history ⌝ }
 {
-    let mut any = false;
+    let mut none = true;
     for i in 0..154 {
-        any = any | large(history[i]);
+        none = none & !large(history[i]);
     }
-    any
+    none
 }
 
 // One sample: the ten of `x` at `first` and before it by the left taps of the row, the ten after it by the right ones.
-fn sample(x: &[i16; 194], first: usize, taps: &[i16; 60], row: usize, loud: bool) -> i16
+// Where none of them is large no step can clamp (`plain`).
+fn sample(x: &[i16; 194], first: usize, taps: &[i16; 60], row: usize, plain: bool) -> i16
     requires places { ⌜ (9 ≤ first) × ((first + 10 < 194) × (row + 20 ≤ 60)) ⌝ }
-    requires quiet { ⌜ Light (now taps) row × (loud ≡ false → Quiet (first + 11) (now x)) ⌝ }
+    requires quiet { ⌜ Light (now taps) row × (plain ≡ true → Quiet (first + 11) (now x)) ⌝ }
     ensures { λ r. ⌜ r ≡ interpolated (now (x .entry)) (pos first) (leftOf (now (taps .entry)) row) (rightOf (now (taps .entry)) row) ⌝ }
 {
     let mut sum = 0;
     for i in 0..10 {
-        sum = basicop::mac(sum, x[first - i], taps[row + 9 - i], loud);
-        sum = basicop::mac(sum, x[first + 1 + i], taps[row + 10 + i], loud);
+        sum = basicop::mac(sum, x[first - i], taps[row + 9 - i], plain);
+        sum = basicop::mac(sum, x[first + 1 + i], taps[row + 10 + i], plain);
     }
     basicop::round(sum)
 }
@@ -172,9 +174,7 @@ fn opened(history: [i16; 154]) -> [i16; 194]
     ensures { λ r. ⌜ take 154 r ≡ history ⌝ }
 {
     let mut buffer: [i16; 194] = [0; 194];
-    for i in 0..154 {
-        buffer[i] = history[i];
-    }
+    copy(&mut buffer[0..154], &history);
     buffer
 }
 
@@ -187,11 +187,11 @@ fn extended(history: [i16; 154], lag: PitchLag) -> [i16; 194]
     let phase = phase_of(lag);
     let start = start_of(lag);
     let mut buffer = opened(history);
-    let mut any = loud(history);
+    let mut plain = quiet(history);
     for n in 0..40 {
-        let y = sample(&buffer, start + n, &taps, 10 * phase, any);
+        let y = sample(&buffer, start + n, &taps, 10 * phase, plain);
         buffer[154 + n] = y;
-        any = any | large(y);
+        plain = plain & !large(y);
     }
     buffer
 }
@@ -203,8 +203,6 @@ pub fn predict(history: [i16; 154], lag: PitchLag) -> [i16; 40]
 {
     let buffer = extended(history, lag);
     let mut samples: [i16; 40] = [0; 40];
-    for n in 0..40 {
-        samples[n] = buffer[154 + n];
-    }
+    copy(&mut samples, &buffer[154..194]);
     samples
 }

@@ -1,6 +1,6 @@
 -- A test of two signed numbers, as a branch leaves it, is a fact of their order; two tests. Assumes nothing.
 use mathlib.Core.Path.{_≡_, refl, subst}
-use mathlib.Core.Bool.{Bool, true, false, _||_}
+use mathlib.Core.Bool.{Bool, true, false, _&&_, _||_}
 use borrow.Author.Tests.{leb-false, lt-ltb, le-ltb}
 use lib.Dec.{T, lt→ltb, ltb→lt, leb→le}
 use lib.IntN.{ℤ, pos, negsuc}
@@ -53,3 +53,12 @@ or-left false c e = refl
 pub or-right : (b c : Bool) → (b || c) ≡ false → c ≡ false
 or-right true c e = cc
 or-right false c e = e
+
+-- ---- both of two tests
+pub and-left : (b c : Bool) → (b && c) ≡ true → b ≡ true
+and-left true c e = refl
+and-left false c e = e
+
+pub and-right : (b c : Bool) → (b && c) ≡ true → c ≡ true
+and-right true c e = e
+and-right false c e = cc

@@ -1,9 +1,9 @@
 // The basic operators of TS 26.073, each equal to its definition in specs/Ops.antt, under the standard's names in lower case.
 ghost use mathlib.Core.Path.{_≡_};
-ghost use mathlib.Core.Bool.{false};
+ghost use mathlib.Core.Bool.{true};
 ghost use lib.IntN.{pos};
 ghost use Rattle.basicop.specs.Ops.{shl, quartered, L-mac};
-ghost use Rattle.basicop.specs.Unclamped.{Unclamped};
+ghost use Rattle.basicop.specs.Inner.{Unclamped};
 use shifting::shl;
 
 mod arithmetic;
@@ -49,7 +49,7 @@ pub struct Q1(pub i16);
 // Gain between two energies.
 pub struct Q12(pub i16);
 
-// Sharpening doubled, an LSP.
+// Sharpening doubled, the tilt, an LSP.
 pub struct Q15(pub i16);
 
 // A 32-bit number in two halves, the standard's double precision format: hi * 65536 + lo * 2.
@@ -64,26 +64,26 @@ pub struct Position {
     pub fraction: i16,
 }
 
-// L_mac by clamped steps, or by a plain product and sum where the caller has shown that no step clamps.
-pub fn mac(s: i32, a: i16, b: i16, clamped: bool) -> i32
-    requires { ⌜ (clamped ≡ false → Unclamped s a b) ⌝ }
+// L_mac by a plain product and sum where the caller has shown that no step clamps (`plain`), or by clamped steps.
+pub fn mac(s: i32, a: i16, b: i16, plain: bool) -> i32
+    requires { ⌜ (plain ≡ true → Unclamped s a b) ⌝ }
     ensures { λ r. ⌜ r ≡ L-mac s a b ⌝ }
 {
-    if clamped {
-        return l_mac(s, a, b);
+    if plain {
+        return s + 2 * ((a as i32) * (b as i32));
     }
-    s + 2 * ((a as i32) * (b as i32))
+    l_mac(s, a, b)
 }
 
 // each sample >> 2
-pub fn quarter(samples: [i16; 40]) -> [i16; 40]
-    ensures { λ r. ⌜ r ≡ quartered samples ⌝ }
+pub fn quarter(samples: &mut [i16])
+    ensures { λ _. ⌜ now (samples .exit) ≡ quartered (now (samples .entry)) ⌝ }
 {
-    let mut r = samples;
-    for i in 0..40 {
-        r[i] = shr(samples[i], 2);
+    let mut i = 0;
+    while i < samples.len() {
+        samples[i] = shr(samples[i], 2);
+        i += 1;
     }
-    r
 }
 
 // the sharpening as pitch sharpening and enhancement take it

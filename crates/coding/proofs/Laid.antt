@@ -1,14 +1,14 @@
 -- The bytes of numbers, laid part by part. Assumes nothing.
 use mathlib.Core.Path.{_≡_, refl, ap, sym, _∙_}
 use mathlib.Core.List.{List, [], _∷_, _++_, map, append-assoc, append-nil}
-use Prim.Native.Nat.{ℕ, _+_, _-_, _*_, _≤_}
+use Prim.Native.Nat.{ℕ, _+_, _*_}
 use native.Mathlib.Omega.{arith}
 use lib.IntN.{ℤ}
-use lib.ListN.{length, take, drop, length-drop, length-append}
-use lib.Seq.{take-all, take-at}
+use lib.ListN.{length, length-append}
 use borrow.Rule.Slice.PartMut.{putMid}
 use Rattle.lists.specs.Parts.{joined, total}
 use Rattle.lists.proofs.Parts.{Counted}
+use Rattle.lists.proofs.Put.{Laid, laid-none, laid-more, laid-done}
 use Rattle.coding.specs.Bytes.{bytesOf}
 
 -- ---- the bytes of numbers
@@ -21,30 +21,6 @@ pub bytes-append : (xs ys : List ℤ) → bytesOf (xs ++ ys) ≡ bytesOf xs ++ b
 unfolding bytesOf
 bytes-append [] ys = refl
 bytes-append (x ∷ xs) ys = rw (bytes-append xs ys)
-
--- ---- a list of n bytes, whose first are those that were put
-pub record Laid (n : ℕ) (done out : List ℕ) : Type 0 where
-  pub room : length out ≡ n
-  pub front : take (length done) out ≡ done
-
-pub laid-none : (n : ℕ) (out : List ℕ) → length out ≡ n → Laid n [] out
-laid-none n out h = record { room = h; front = refl }
-
--- m bytes put from place k on, after the k that stand
-pub laid-more : {n : ℕ} {done out : List ℕ} (k m : ℕ) (last ys : List ℕ) → Laid n done out → length done ≡ k → length ys ≡ m → k + m ≤ n → last ≡ ys → Laid n (done ++ ys) (putMid k m out last)
-laid-more {n} {done} {out} k m last ys l hd hy h is =
-    let rest : List ℕ = drop m (drop k out) in
-    let e : take k out ≡ done = rw hd at (l .front) in
-    let lr : length rest ≡ n - k - m = length-drop m (drop k out) ∙ rw (length-drop k out, l .room) in
-    let la = length-append done (ys ++ rest) in
-    let lb = length-append ys rest in
-    record {
-      room = rw (e, is) (omega (arith, la, lb, lr, hd, hy));
-      front = rw (e, is) (ap (take (length (done ++ ys))) (sym (append-assoc done ys rest)) ∙ take-at (done ++ ys) rest (length (done ++ ys)) refl);
-    }
-
-pub laid-done : {n : ℕ} {done out : List ℕ} → Laid n done out → length done ≡ n → out ≡ done
-laid-done {n} {done} {out} l h = sym (take-all (length done) out (omega (arith, h, l .room))) ∙ l .front
 
 -- ---- parts laid one after another, from place k on
 abbrev pub lay : ℕ → List ℕ → List (List ℕ) → List ℕ → List ℕ

@@ -11,6 +11,7 @@ ghost use Rattle.lists.specs.Lists.{Every};
 use basicop::Q1;
 use basicop::Q14;
 use basicop::Q15;
+use copy::copy;
 use lpc::Rows;
 use pitch::PitchLag;
 
@@ -61,7 +62,7 @@ fn enhanced(feedback: [i16; 40], adaptive: [i16; 40], doubled: Q15, pitch: Q14) 
 }
 
 // The first excitation of the synthesis.
-pub fn first_excitation(adaptive: [i16; 40], pitch: Q14, feedback: [i16; 40]) -> [i16; 40]
+fn first_excitation(adaptive: [i16; 40], pitch: Q14, feedback: [i16; 40]) -> [i16; 40]
     ensures { λ r. ⌜ r ≡ firstExcitation adaptive (pitch .0) feedback .value ⌝ }
 {
     let doubled = basicop::doubled(excitation::next_sharpening(pitch));
@@ -81,7 +82,7 @@ pub struct Synthesised {
 }
 
 // Syn_filt on the first excitation; where a step clamps, feedback and past are quartered and it runs again on that feedback.
-pub fn synthesise(
+fn synthesise(
     row: [i16; 11],
     feedback: [i16; 40],
     excitation: [i16; 40],
@@ -93,14 +94,17 @@ pub fn synthesise(
     let first = synthesis::preview(row, excitation, history);
     let place = first.place;
     if place < 40 {
-        let quarter = basicop::quarter(feedback);
+        let mut quarter = feedback;
+        basicop::quarter(&mut quarter);
+        let mut quarter_past = past;
+        basicop::quarter(&mut quarter_past);
         let again = synthesis::filter(row, quarter, history);
         let samples = again.samples;
         return Synthesised {
             place,
             samples,
             feedback: quarter,
-            past: excitation::take_in(excitation::quarter_past(past), quarter),
+            past: excitation::take_in(quarter_past, quarter),
         };
     }
     let samples = first.samples;
@@ -144,7 +148,7 @@ pub struct Turned {
 }
 
 // The subframe step.
-pub fn turn(core: Core, row: [i16; 11], p: Parameters) -> Turned
+fn turn(core: Core, row: [i16; 11], p: Parameters) -> Turned
     requires { ⌜ UsableSubframe (subframeOf p) ⌝ }
     ensures { λ r. ⌜ r ≡ toldTurn (turn core row (subframeOf p)) ⌝ }
 {
@@ -172,14 +176,13 @@ pub fn turn(core: Core, row: [i16; 11], p: Parameters) -> Turned
 }
 
 // The frame with the samples of a subframe in their place.
-pub fn put(frame: [i16; 160], samples: [i16; 40], subframe: usize) -> [i16; 160]
+fn put(frame: [i16; 160], samples: [i16; 40], subframe: usize) -> [i16; 160]
     requires { ⌜ subframe < 4 ⌝ }
     ensures { λ r. ⌜ take (40 * subframe + 40) r ≡ take (40 * subframe) frame ++ samples ⌝ }
 {
+    let from = 40 * subframe;
     let mut r = frame;
-    for i in 0..40 {
-        r[40 * subframe + i] = samples[i];
-    }
+    copy(&mut r[from..from + 40], &samples);
     r
 }
 

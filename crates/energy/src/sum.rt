@@ -32,7 +32,8 @@ pub fn energy(samples: [i16; 40]) -> i32
 {
     let sum = squares(&samples);
     if 2147483646 < sum {
-        let quartered = quarter(samples);
+        let mut quartered = samples;
+        quarter(&mut quartered);
         return squares(&quartered);
     }
     sum >> 4

@@ -1,19 +1,19 @@
 // The excitation of a subframe: sharpening, feedback and the past.
 ghost use mathlib.Core.Path.{_≡_};
 ghost use Prim.Native.Nat.{_<_, _≤_};
-ghost use mathlib.Core.List.{_++_};
 ghost use lib.IntN.{pos};
-ghost use lib.ListN.{take, drop};
-ghost use Rattle.basicop.specs.Ops.{add, mult, quartered};
+ghost use Rattle.basicop.specs.Ops.{add, mult};
 ghost use Rattle.excitation.specs.Excitation.{sharpened, sharpening, feedbackAt, feedback, taking};
 use basicop::Q1;
 use basicop::Q14;
+use basicop::Q15;
+use copy::copy;
 
 // A sample of the sharpened innovation, from the one a lag before it.
-fn sharper(code: i16, before: i16, sharpening: i16) -> i16
-    ensures { λ r. ⌜ r ≡ add code (mult before sharpening) ⌝ }
+fn sharper(code: i16, before: i16, doubled: Q15) -> i16
+    ensures { λ r. ⌜ r ≡ add code (mult before (doubled .0)) ⌝ }
 {
-    basicop::add(code, basicop::mult(before, sharpening))
+    basicop::add(code, basicop::mult(before, doubled.0))
 }
 
 // The innovation with pitch sharpening, by the sharpening of the subframe before. A lag is at least 19.
@@ -22,11 +22,10 @@ pub fn sharpen(innovation: [i16; 40], lag: usize, sharpening: Q14) -> [i16; 40]
     ensures { λ r. ⌜ r ≡ sharpened innovation (pos lag) (sharpening .0) ⌝ }
 {
     let doubled = basicop::doubled(sharpening);
-    let g = doubled.0;
     let mut code = innovation;
     let mut i = lag;
     while i < 40 {
-        code[i] = sharper(code[i], code[i - lag], g);
+        code[i] = sharper(code[i], code[i - lag], doubled);
         i += 1;
     }
     code
@@ -61,41 +60,12 @@ pub fn feedback(adaptive: [i16; 40], innovation: [i16; 40], pitch: Q14, code: Q1
     r
 }
 
-// The past without its oldest forty, at the front.
-fn kept(past: [i16; 154]) -> [i16; 154]
-    ensures { λ r. ⌜ take 114 r ≡ drop 40 past ⌝ }
-{
-    let mut r = past;
-    for i in 0..114 {
-        r[i] = past[i + 40];
-    }
-    r
-}
-
-// Forty after the first 114.
-fn joined(past: [i16; 154], feedback: [i16; 40]) -> [i16; 154]
-    ensures { λ r. ⌜ r ≡ take 114 past ++ feedback ⌝ }
-{
-    let mut r = past;
-    for i in 0..40 {
-        r[114 + i] = feedback[i];
-    }
-    r
-}
-
 // The past takes in a subframe, its oldest forty leaving.
 pub fn take_in(past: [i16; 154], feedback: [i16; 40]) -> [i16; 154]
     ensures { λ r. ⌜ r ≡ taking past feedback ⌝ }
 {
-    joined(kept(past), feedback)
-}
-
-pub fn quarter_past(past: [i16; 154]) -> [i16; 154]
-    ensures { λ r. ⌜ r ≡ quartered past ⌝ }
-{
     let mut r = past;
-    for i in 0..154 {
-        r[i] = basicop::shr(past[i], 2);
-    }
+    copy(&mut r[0..114], &past[40..154]);
+    copy(&mut r[114..154], &feedback);
     r
 }

@@ -7,7 +7,7 @@ use native.Mathlib.Numerals.{add-one}
 use native.Mathlib.Nat.{add-comm, not-suc-le-zero, le-of-suc-le-suc, eq-or-lt-of-le}
 use native.Mathlib.Omega.{arith}
 use lib.ListN.{length, take, drop, length-append, length-drop, List·getD-append}
-use lib.Seq.{getD-at, getD-drop, getD-take, getD-append-add, length-take-le}
+use lib.Seq.{getD-at, getD-drop, getD-take, getD-append-add, length-take-le, take-all}
 use lib.IntN.{ℤ, pos}
 use Rattle.lists.specs.Lists.{at, tab, pairwise, Every}
 
@@ -117,3 +117,7 @@ stretch-length xs k n h = length-take-le n (drop k xs) (rw (length-drop k xs) (o
 
 pub stretch-at : (xs : List ℤ) (k n i : ℕ) → i < n → at xs (k + i) ≡ at (take n (drop k xs)) i
 stretch-at xs k n i h = sym (getD-take n (drop k xs) i (pos 0) h ∙ getD-drop k xs i (pos 0))
+
+-- of a list of k + n, those from number k on
+pub stretch-end : {A : Type 0} (xs : List A) (k n : ℕ) → length xs ≡ k + n → take n (drop k xs) ≡ drop k xs
+stretch-end xs k n l = take-all n (drop k xs) (rw (length-drop k xs) (omega (arith, l)))

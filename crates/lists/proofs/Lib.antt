@@ -5,7 +5,9 @@ pub mod Signed
 pub mod Entries
 pub mod Fill
 pub mod Ends
+pub mod Map
 pub mod Place
+pub mod Put
 pub mod Fold
 pub mod Count
 pub mod Grow

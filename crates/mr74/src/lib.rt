@@ -15,6 +15,7 @@ ghost use Rattle.mr74.specs.Frame.{called, frameCall};
 ghost use Rattle.mr74.specs.Inner.{Ready, twoLags, decodedOf, refusal};
 use basicop::Q1;
 use basicop::Q14;
+use copy::copy;
 use decoder::Inputs;
 use decoder::Parameters;
 use lpc::Rows;
@@ -247,15 +248,6 @@ fn decode(state: State, inputs: Inputs) -> Decoded
     }
 }
 
-fn copy(samples: [i16; 160], out: &mut [i16])
-    requires { ⌜ length (now out) ≡ 160 ⌝ }
-    ensures { λ _. ⌜ now (out .exit) ≡ samples ⌝ }
-{
-    for i in 0..160 {
-        out[i] = samples[i];
-    }
-}
-
 // Rows all zero, flags 0, the state as it came.
 fn refused(outcome: Outcome, state: State) -> FrameAnswer
     ensures { λ r. ⌜ r ≡ refusal outcome state ⌝ }
@@ -280,7 +272,7 @@ pub fn frame(sheet: &[i16], state: State, out: &mut [i16]) -> FrameAnswer
     if outcome.accepted() {
         let decoded = decode(state, inputs(sheet));
         let samples = decoded.samples;
-        copy(samples, out);
+        copy(out, &samples);
         let rows = decoded.rows;
         let flags = decoded.flags;
         let next = decoded.next;

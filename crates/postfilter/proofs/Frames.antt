@@ -1,25 +1,20 @@
 -- A frame by its four subframes. Assumes nothing.
-use Prim.Native.Nat.{ℕ, zero, suc, _+_, _*_, _<_}
+use Prim.Native.Nat.{ℕ, zero, suc, _+_, _-_, _*_, _<_}
 use mathlib.Core.Path.{_≡_, refl, sym, _∙_}
-use mathlib.Core.List.{List, _++_}
+use mathlib.Core.List.{List}
 use native.Mathlib.Numerals.{add-one}
 use native.Mathlib.Omega.{arith}
 use lib.IntN.{ℤ}
-use lib.ListN.{length, take}
+use lib.ListN.{length, take, drop}
 use lib.Seq.{take-all}
-use Rattle.lists.specs.Lists.{at, iter}
-use Rattle.lists.proofs.Entries.{stretch-length, stretch-at}
+use borrow.Rule.Slice.PartMut.{putMid}
+use Rattle.lists.specs.Lists.{iter}
+use Rattle.lists.proofs.Put.{put-length, put-front}
 use Rattle.lpc.specs.declared.Rows.{Rows}
 use Rattle.postfilter.specs.declared.Postfilter.{Postfilter}
 use Rattle.postfilter.specs.declared.Subframe.{Subframe}
 use Rattle.postfilter.specs.declared.Frame.{Frame}
 use Rattle.postfilter.specs.Postfilter.{Processed, filtered, rowAt, part, processNext, processFrom, processed}
-
-pub part-length : (ys : List ℤ) (k : ℕ) → length ys ≡ 160 → k < 4 → length (part ys k) ≡ 40
-part-length ys k l h = stretch-length ys (40 * k) 40 (omega (arith, l))
-
-pub part-at : (ys : List ℤ) (k i : ℕ) → i < 40 → at ys (40 * k + i) ≡ at (part ys k) i
-part-at ys k i h = stretch-at ys (40 * k) 40 i h
 
 -- the fourth row, by the tests of the first three
 pub row-fourth : (rows : Rows) (k : ℕ) → (k ≡ 0 → ⊥) → (k ≡ 1 → ⊥) → (k ≡ 2 → ⊥) → rows .d ≡ rowAt rows k
@@ -41,12 +36,19 @@ pub framing-none : (m : Postfilter) (rows : Rows) (ys out : List ℤ) → length
 unfolding iter
 framing-none m rows ys out l = record { room = l; made = refl; memory = refl }
 
-pub framing-more : {m carried : Postfilter} {rows : Rows} {ys out next row xs : List ℤ} {f : Subframe} {k : ℕ} → Framing m rows ys out carried k → length next ≡ 160 → row ≡ rowAt rows k → xs ≡ part ys k → f ≡ filtered carried row xs .output → take (40 * k + 40) next ≡ take (40 * k) out ++ f .samples → Framing m rows ys next (f .memory) (k + 1)
+-- the samples of subframe k as they were lent, and those made as they were put
+pub framing-more : {m carried : Postfilter} {rows : Rows} {ys out last row xs : List ℤ} {f : Subframe} {k : ℕ} → Framing m rows ys out carried k → k < 4 → row ≡ rowAt rows k → xs ≡ take (40 * k + 40 - 40 * k) (drop (40 * k) ys) → f ≡ filtered carried row xs .output → length last ≡ 40 → last ≡ f .samples → Framing m rows ys (putMid (40 * k) (40 * k + 40 - 40 * k) out last) (f .memory) (k + 1)
 unfolding iter
-framing-more {m} {carried} {rows} {ys} {out} {next} {row} {xs} {f} {k} r l er ex ef en =
+framing-more {m} {carried} {rows} {ys} {out} {last} {row} {xs} {f} {k} r h er ex ef l el =
     let n : 40 * suc k ≡ 40 * k + 40 = omega arith in
-    let e : f ≡ filtered (so-far m rows ys k .output .memory) (rowAt rows k) (part ys k) .output = ef ∙ rw (er, ex, r .memory) in
-    rw (add-one k) (record { room = l; made = rw n (en ∙ rw (r .made, e)); memory = rw e })
+    let d : 40 * k + 40 - 40 * k ≡ 40 = omega arith in
+    let e : f ≡ filtered (so-far m rows ys k .output .memory) (rowAt rows k) (part ys k) .output = ef ∙ rw (er, rw d at ex, r .memory) in
+    rw (add-one k, d)
+    (record {
+      room = put-length (40 * k) 40 out last l (omega (arith, r .room)) ∙ r .room;
+      made = rw n (put-front (40 * k) 40 out last l (omega (arith, r .room)) ∙ rw (r .made, el, e));
+      memory = rw e;
+    })
 
 pub framing-done : {m carried : Postfilter} {rows : Rows} {ys out : List ℤ} {k : ℕ} → Framing m rows ys out carried k → k ≡ 4 → _≡_ {A = Frame} (record { samples = out; memory = carried }) (processed m rows ys .output)
 unfolding processed

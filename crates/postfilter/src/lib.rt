@@ -1,17 +1,18 @@
 // The postfilter: Post_Filter of TS 26.073, with Weight_Ai, Residu and preemphasis.
 ghost use mathlib.Core.Path.{_≡_};
-ghost use mathlib.Core.Bool.{false};
+ghost use mathlib.Core.Bool.{true};
 ghost use mathlib.Core.List.{_++_};
-ghost use Prim.Native.Nat.{_+_, _*_, _<_, _≤_};
+ghost use Prim.Native.Nat.{_<_, _≤_};
 ghost use lib.IntN.{pos};
-ghost use lib.ListN.{length, take, replicate};
+ghost use lib.ListN.{length, replicate};
 ghost use Rattle.lists.specs.Lists.{at};
-ghost use Rattle.synthesis.specs.Pass.{weight};
+ghost use Rattle.synthesis.specs.Inner.{weight};
 ghost use Rattle.postfilter.specs.Weight.{weighted};
 ghost use Rattle.postfilter.specs.Residual.{residualSum, residual};
 ghost use Rattle.postfilter.specs.Tilt.{impulse, correlation, tiltOf};
 ghost use Rattle.postfilter.specs.Preemphasis.{emphasised, preemphasised};
-ghost use Rattle.postfilter.specs.Postfilter.{filtered, rowAt, part, processed};
+ghost use Rattle.postfilter.specs.Postfilter.{filtered, rowAt, processed};
+use basicop::Q15;
 use basicop::div_s;
 use basicop::extract_h;
 use basicop::l_mac;
@@ -21,6 +22,7 @@ use basicop::mac;
 use basicop::mult;
 use basicop::round;
 use basicop::sub;
+use copy::copy;
 use energy::GainControl;
 use lpc::Rows;
 use synthesis::light;
@@ -64,36 +66,24 @@ fn weight(coefficients: [i16; 11], factors: &[i16; 10]) -> [i16; 11]
 }
 
 // ---- Residu
-// The ten inputs before, with room for forty.
-fn opened(history: [i16; 10]) -> [i16; 50]
-    ensures { λ r. ⌜ take 10 r ≡ history ⌝ }
+// The ten inputs before, then forty.
+fn joined(history: [i16; 10], samples: [i16; 40]) -> [i16; 50]
+    ensures { λ r. ⌜ r ≡ history ++ samples ⌝ }
 {
     let mut r = [0i16; 50];
-    for i in 0..10 {
-        r[i] = history[i];
-    }
+    copy(&mut r[0..10], &history);
+    copy(&mut r[10..50], &samples);
     r
 }
 
-// Forty after the first ten.
-fn joined(opened: [i16; 50], samples: [i16; 40]) -> [i16; 50]
-    ensures { λ r. ⌜ r ≡ take 10 opened ++ samples ⌝ }
-{
-    let mut r = opened;
-    for i in 0..40 {
-        r[10 + i] = samples[i];
-    }
-    r
-}
-
-// The sum for the input at a place. Where the weight of the row, |a0| + .. + |a10|, is below 32768 no step can clamp.
-fn residual_sum(a: &[i16; 11], x: &[i16; 50], place: usize, clamped: bool) -> i32
-    requires { ⌜ (10 ≤ place) × ((place < 50) × (clamped ≡ false → weight (now a) 10 < 32768)) ⌝ }
+// The sum for the input at a place. Where the weight of the row, |a0| + .. + |a10|, is below 32768 no step can clamp (`plain`).
+fn residual_sum(a: &[i16; 11], x: &[i16; 50], place: usize, plain: bool) -> i32
+    requires { ⌜ (10 ≤ place) × ((place < 50) × (plain ≡ true → weight (now a) < 32768)) ⌝ }
     ensures { λ r. ⌜ r ≡ residualSum (now (a .entry)) (now (x .entry)) place ⌝ }
 {
-    let mut s = mac(0, x[place], a[0], clamped);
+    let mut s = mac(0, x[place], a[0], plain);
     for j in 0..10 {
-        s = mac(s, a[j + 1], x[place - (j + 1)], clamped);
+        s = mac(s, a[j + 1], x[place - (j + 1)], plain);
     }
     s
 }
@@ -101,11 +91,11 @@ fn residual_sum(a: &[i16; 11], x: &[i16; 50], place: usize, clamped: bool) -> i3
 fn residual(numerator: [i16; 11], history: [i16; 10], samples: [i16; 40]) -> [i16; 40]
     ensures { λ r. ⌜ r ≡ residual numerator (history ++ samples) ⌝ }
 {
-    let clamped = !light(&numerator);
-    let x = joined(opened(history), samples);
+    let plain = light(&numerator);
+    let x = joined(history, samples);
     let mut r = [0i16; 40];
     for n in 0..40 {
-        r[n] = round(l_shl(residual_sum(&numerator, &x, n + 10, clamped), 3));
+        r[n] = round(l_shl(residual_sum(&numerator, &x, n + 10, plain), 3));
     }
     r
 }
@@ -116,20 +106,7 @@ fn padded(row: [i16; 11]) -> [i16; 40]
     ensures { λ r. ⌜ r ≡ row ++ replicate 29 (pos 0) ⌝ }
 {
     let mut r = [0i16; 40];
-    for i in 0..11 {
-        r[i] = row[i];
-    }
-    r
-}
-
-// Of forty samples, the 22 that were made.
-fn first_22(samples: [i16; 40]) -> [i16; 22]
-    ensures { λ r. ⌜ r ≡ take 22 samples ⌝ }
-{
-    let mut r = [0i16; 22];
-    for i in 0..22 {
-        r[i] = samples[i];
-    }
+    copy(&mut r[0..11], &row);
     r
 }
 
@@ -138,7 +115,9 @@ fn impulse(numerator: [i16; 11], denominator: [i16; 11]) -> [i16; 22]
     ensures { λ r. ⌜ r ≡ impulse numerator denominator ⌝ }
 {
     let samples = synthesis::first_samples(denominator, padded(numerator), [0i16; 10], 22);
-    first_22(samples)
+    let mut r = [0i16; 22];
+    copy(&mut r, &samples[0..22]);
+    r
 }
 
 // Each sample by the next.
@@ -153,27 +132,27 @@ fn correlation(h: [i16; 22]) -> i32
 }
 
 // 26214 is 0.8 (Q15). The correlation is at most the energy, so that the division is in order: `tilt-asks`.
-fn tilt_of(h: [i16; 22]) -> i16
-    ensures { λ r. ⌜ r ≡ tiltOf h .value ⌝ }
+fn tilt_of(h: [i16; 22]) -> Q15
+    ensures { λ r. ⌜ r .0 ≡ tiltOf h .value ⌝ }
 {
     let r1 = extract_h(correlation(h));
     if r1 <= 0 {
-        return 0;
+        return Q15(0);
     }
     let r0 = extract_h(energy::squares(&h));
-    div_s(mult(r1, 26214), r0)
+    Q15(div_s(mult(r1, 26214), r0))
 }
 
 // ---- preemphasis
-fn emphasised(residual: i16, before: i16, tilt: i16) -> i16
-    ensures { λ r. ⌜ r ≡ emphasised tilt residual before ⌝ }
+fn emphasised(residual: i16, before: i16, tilt: Q15) -> i16
+    ensures { λ r. ⌜ r ≡ emphasised (tilt .0) residual before ⌝ }
 {
-    sub(residual, mult(tilt, before))
+    sub(residual, mult(tilt.0, before))
 }
 
 // Each residual, less the tilt times the one before it as it was.
-fn preemphasis(residual: [i16; 40], tilt: i16, carried: i16) -> [i16; 40]
-    ensures { λ r. ⌜ r ≡ preemphasised tilt carried residual ⌝ }
+fn preemphasis(residual: [i16; 40], tilt: Q15, carried: i16) -> [i16; 40]
+    ensures { λ r. ⌜ r ≡ preemphasised (tilt .0) carried residual ⌝ }
 {
     let mut r = residual;
     let mut previous = carried;
@@ -193,12 +172,12 @@ struct Excited {
 
 fn excitation(
     numerator: [i16; 11],
-    tilt: i16,
+    tilt: Q15,
     history: [i16; 10],
     carried: i16,
     samples: [i16; 40],
 ) -> Excited
-    ensures { λ r. ⌜ (r .samples ≡ preemphasised tilt carried (residual numerator (history ++ samples))) × (r .last ≡ at (residual numerator (history ++ samples)) 39) ⌝ }
+    ensures { λ r. ⌜ (r .samples ≡ preemphasised (tilt .0) carried (residual numerator (history ++ samples))) × (r .last ≡ at (residual numerator (history ++ samples)) 39) ⌝ }
 {
     let whitened = residual(numerator, history, samples);
     let out = preemphasis(whitened, tilt, carried);
@@ -209,7 +188,7 @@ fn excitation(
 }
 
 // One subframe, from its row and its synthesis samples.
-pub fn filter(memory: Postfilter, coefficients: [i16; 11], samples: [i16; 40]) -> Subframe
+fn filter(memory: Postfilter, coefficients: [i16; 11], samples: [i16; 40]) -> Subframe
     ensures { λ r. ⌜ r ≡ filtered memory coefficients samples .output ⌝ }
 {
     let numerators = NUMERATOR;
@@ -255,30 +234,19 @@ fn row_of(rows: Rows, subframe: usize) -> [i16; 11]
     }
 }
 
-// The samples of a subframe.
-fn part(samples: [i16; 160], subframe: usize) -> [i16; 40]
-    requires { ⌜ subframe < 4 ⌝ }
-    ensures { λ r. ⌜ r ≡ part samples subframe ⌝ }
-{
-    let mut r = [0i16; 40];
-    for i in 0..40 {
-        r[i] = samples[40 * subframe + i];
-    }
-    r
-}
-
 pub fn process(memory: Postfilter, samples: [i16; 160], rows: Rows) -> Frame
     ensures { λ r. ⌜ r ≡ processed memory rows samples .output ⌝ }
 {
     let mut out = samples;
     let mut carried = memory;
     for k in 0..4 {
+        let from = 40 * k;
         let row = row_of(rows, k);
-        let input = part(samples, k);
+        let mut input = [0i16; 40];
+        copy(&mut input, &samples[from..from + 40]);
         let filtered = filter(carried, row, input);
         let made = filtered.samples;
-        let next = decoder::put(out, made, k);
-        out = next;
+        copy(&mut out[from..from + 40], &made);
         let left = filtered.memory;
         carried = left;
     }

@@ -16,7 +16,8 @@ use Rattle.state.specs.declared.State.{State}
 use Rattle.state.specs.State.{stateChecks}
 use Rattle.state.specs.Layout.{numbersOf}
 use Rattle.coding.specs.Bytes.{bytesOf}
-use Rattle.coding.proofs.Laid.{bytes-length, Laid, laid-none, laid-more, laid-done}
+use Rattle.lists.proofs.Put.{Laid, laid-none, laid-more, laid-done}
+use Rattle.coding.proofs.Laid.{bytes-length}
 use Rattle.record.specs.Record.{trailerBytes, encoded, roomChecks, writeChecks, written, writeCall}
 
 -- the first two bytes are set

@@ -12,7 +12,7 @@ use Rattle.lists.specs.Lists.{at}
 use Rattle.synthesis.specs.Fed.{fed, numbersOf, leaves, leavesAny, leavesAt}
 use Rattle.synthesis.specs.Synthesis.{sample, unheld, unhelds, overflowed, overflowedAt}
 use Rattle.synthesis.specs.Whole.{sum, sums, wholes}
-use Rattle.synthesis.specs.Pass.{Halved, Ended}
+use Rattle.synthesis.specs.Inner.{Halved, Ended}
 use Rattle.basicop.proofs.Tests.{or-left}
 use Rattle.synthesis.proofs.Flags.{or-same, leaves-two, any-append, at-append, at-none, at-here}
 use Rattle.synthesis.proofs.Fed.{length-fed, length-numbers, numbers-append, fed-more}

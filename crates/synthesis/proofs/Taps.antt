@@ -4,6 +4,7 @@ use mathlib.Core.Path.{_≡_, refl, sym, ap, _∙_}
 use mathlib.Core.Bool.{Bool, true, false, _||_, or-true, or-false}
 use mathlib.Core.List.{List}
 use native.Mathlib.Nat.{zero-add, suc-add, le-refl}
+use native.Mathlib.Numerals.{add-one}
 use native.Mathlib.Omega.{arith}
 use lib.IntN.{ℤ, pos, natAbs, _-ℤ_, _*ℤ_, *ℤ-comm}
 use lib.ListN.{length, take}
@@ -18,7 +19,9 @@ use Rattle.basicop.proofs.Range.{natAbs-is, natAbs-sub}
 use Rattle.synthesis.specs.Fed.{outside, ago, leaves}
 use Rattle.synthesis.specs.Synthesis.{acc}
 use Rattle.synthesis.specs.Whole.{product, sum, sums}
-use Rattle.synthesis.specs.Pass.{weight, Halved}
+use Rattle.synthesis.specs.Inner.{weight, Halved}
+use Rattle.basicop.specs.Inner.{sizes}
+use Rattle.basicop.proofs.Unclamped.{sizes-most}
 use Rattle.basicop.proofs.Tests.{or-right}
 use Rattle.synthesis.proofs.Flags.{leaves-append, leaves-one, leaves-two}
 use Rattle.synthesis.proofs.Agree.{acc-same}
@@ -111,48 +114,37 @@ pub summed-done : {a : List ℤ} {x : ℤ} {y : List ℤ} {s : ℤ} {o : Bool} {
 summed-done r m e = record { flag = rw e at (r .flag); is = λ f. rw e at (r .is); size = r .size }
 
 -- ---- of a row whose weight is below 32768 no number up to the sum lies outside
--- the first coefficients weigh no more than all
-pub weight-mono : (a : List ℤ) (k i : ℕ) → weight a k ≤ weight a (i + k)
-unfolding weight
-weight-mono a k zero = rw (zero-add k) (le-refl (weight a k))
-weight-mono a k (suc i) = rw (suc-add i k) (omega (arith, weight-mono a k i))
-
--- the weight before coefficient k
+-- the weight of the first k coefficients
 pub record Weighed (a : List ℤ) (w k : ℕ) : Type 0 where
-  pub is : w ≡ weight a (k - 1)
+  pub is : w ≡ sizes (at a) k
   pub most : w ≤ k * 32768
 
-pub weighed-none : {a : List ℤ} {w : ℕ} → w ≡ natAbs (at a 0) → w ≤ 32768 → Weighed a w 1
-unfolding weight
-weighed-none e h = record { is = e; most = omega arith }
+pub weighed-none : {a : List ℤ} → Weighed a 0 0
+unfolding sizes
+weighed-none = record { is = refl; most = le-refl 0 }
 
-pub weighed-more : {a : List ℤ} {w v k : ℕ} → Weighed a w k → 1 ≤ k → v ≡ natAbs (at a k) → v ≤ 32768 → Weighed a (w + v) (k + 1)
-unfolding weight
-weighed-more {k = k} r h e l =
-    record { is = rw (next k h, this k h, r .is, e); most = omega (arith, r .most) }
+pub weighed-more : {a : List ℤ} {w v k : ℕ} → Weighed a w k → v ≡ natAbs (at a k) → v ≤ 32768 → Weighed a (w + v) (k + 1)
+unfolding sizes
+weighed-more {k = k} r e l = record { is = rw (add-one k, r .is, e); most = omega (arith, r .most) }
 
 -- the numbers before tap k
 pub record Light (a : List ℤ) (x : ℤ) (y : List ℤ) (s : ℤ) (k : ℕ) : Type 0 where
   pub run : Summed a x y s false k
-  pub small : natAbs s ≤ weight a (k - 1) * 32768
+  pub small : natAbs s ≤ sizes (at a) k * 32768
 
-pub light-none : {a : List ℤ} {x : ℤ} {y : List ℤ} {s : ℤ} → weight a 10 < 32768 → s ≡ at a 0 *ℤ x → natAbs s ≤ natAbs (at a 0) * 32768 → Light a x y s 1
-unfolding weight
+pub light-none : {a : List ℤ} {x : ℤ} {y : List ℤ} {s : ℤ} → weight a < 32768 → s ≡ at a 0 *ℤ x → natAbs s ≤ natAbs (at a 0) * 32768 → Light a x y s 1
+unfolding sizes
 light-none {a} {s = s} l e h =
-    let w : natAbs (at a 0) ≤ weight a 10 = weight-mono a 0 10 in
-    record { run = summed-none e (sym (small-inside s (omega arith))) (omega arith); small = h }
+    let w = sizes-most (at a) 1 11 (omega arith) in
+    record { run = summed-none e (sym (small-inside s (omega arith))) (omega arith); small = omega arith }
 
-module _ {a : List ℤ} {x : ℤ} {y : List ℤ} {s : ℤ} {k : ℕ} (p : ℤ) (r : Light a x y s k) (l : weight a 10 < 32768) (h : 1 ≤ k) (u : k ≤ 10) (j : natAbs p ≤ natAbs (at a k) * 32768) where
-  heavier : weight a (k + 1 - 1) ≡ weight a (k - 1) + natAbs (at a k)
-  unfolding weight
-  heavier = rw (next k h, this k h)
-
-  still-small : (natAbs p ≤ 1073709056) × ((natAbs (s -ℤ p) ≤ 1073709056) × (natAbs (s -ℤ p) ≤ weight a (k + 1 - 1) * 32768))
+module _ {a : List ℤ} {x : ℤ} {y : List ℤ} {s : ℤ} {k : ℕ} (p : ℤ) (r : Light a x y s k) (l : weight a < 32768) (h : 1 ≤ k) (u : k ≤ 10) (j : natAbs p ≤ natAbs (at a k) * 32768) where
+  still-small : (natAbs p ≤ 1073709056) × ((natAbs (s -ℤ p) ≤ 1073709056) × (natAbs (s -ℤ p) ≤ sizes (at a) (k + 1) * 32768))
+  unfolding sizes
   still-small =
-      let i : 10 - (k + 1 - 1) + (k + 1 - 1) ≡ 10 = omega arith in
-      let w : weight a (k + 1 - 1) ≤ weight a 10 = rw i at (weight-mono a (k + 1 - 1) (10 - (k + 1 - 1))) in
+      let w = sizes-most (at a) (suc k) 11 (omega arith) in
       let b = natAbs-sub s p in
-      (omega (arith, heavier, r .small), (omega (arith, heavier, r .small), omega (arith, heavier, r .small)))
+      rw (add-one k) (omega (arith, r .small), (omega (arith, r .small), omega (arith, r .small)))
 
   pub light-fits : SFits w32 (s -ℤ p)
   light-fits = sfits-by (omega (arith, natAbs-is (s -ℤ p), still-small .1 .0))

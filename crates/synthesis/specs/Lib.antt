@@ -2,4 +2,4 @@ pub mod Fed
 pub mod Synthesis
 pub mod Whole
 pub mod Agree
-pub mod Pass
+pub mod Inner

@@ -1,6 +1,6 @@
 // The synthesis filter: Syn_filt of TS 26.073. A first pass in whole numbers, which ends where one leaves 32 bits, and the pass by clamped steps.
 ghost use mathlib.Core.Path.{_≡_};
-ghost use mathlib.Core.Bool.{false};
+ghost use mathlib.Core.Bool.{true, false};
 ghost use mathlib.Core.List.{_++_};
 ghost use Prim.Native.Nat.{_*_, _-_, _≤_, _<_};
 ghost use lib.Dec.{ltb};
@@ -8,11 +8,12 @@ ghost use lib.IntN.{pos, natAbs, _*ℤ_};
 ghost use lib.ListN.{length, take, drop, replicate};
 ghost use Rattle.synthesis.specs.Fed.{outside, fed};
 ghost use Rattle.synthesis.specs.Synthesis.{acc, sample, firstSamples, overflowedAt, newest, previewed, filtered};
-ghost use Rattle.synthesis.specs.Pass.{weight, Halved, Ended};
+ghost use Rattle.synthesis.specs.Inner.{weight, Halved, Ended};
 use basicop::l_msu;
 use basicop::l_mult;
 use basicop::l_shl;
 use basicop::round;
+use copy::copy;
 
 // What the first pass gives: the samples before `place`, the first at which a step leaves 32 bits, and zeros from there on;
 // all forty where none does and the place is 40.
@@ -33,9 +34,7 @@ fn roomed(history: [i16; 10]) -> [i16; 50]
     ensures { λ r. ⌜ (r ≡ history ++ replicate 40 (pos 0)) × (take 10 r ≡ history) ⌝ }
 {
     let mut buf = [0i16; 50];
-    for i in 0..10 {
-        buf[i] = history[i];
-    }
+    copy(&mut buf[0..10], &history);
     buf
 }
 
@@ -44,9 +43,7 @@ fn after_history(buf: [i16; 50]) -> [i16; 40]
     ensures { λ r. ⌜ r ≡ drop 10 buf ⌝ }
 {
     let mut out = [0i16; 40];
-    for i in 0..40 {
-        out[i] = buf[i + 10];
-    }
+    copy(&mut out, &buf[10..50]);
     out
 }
 
@@ -55,9 +52,7 @@ pub fn newest(samples: [i16; 40]) -> [i16; 10]
     ensures { λ r. ⌜ r ≡ newest 10 samples ⌝ }
 {
     let mut out = [0i16; 10];
-    for i in 0..10 {
-        out[i] = samples[i + 30];
-    }
+    copy(&mut out, &samples[30..40]);
     out
 }
 
@@ -74,12 +69,12 @@ fn accumulated(a: &[i16; 11], x: i16, buf: &[i16; 50], at: usize) -> i32
     s
 }
 
-// The same. Where the weight of the row is below 32768 no step can clamp, and the sum is twice what `untested` gives.
-fn clamped_sum(a: &[i16; 11], x: i16, buf: &[i16; 50], at: usize, light: bool) -> i32
-    requires { ⌜ (length (now buf) ≡ 50) × ((10 ≤ at) × ((at < 50) × (light ≡ ltb (weight (now a) 10) 32768))) ⌝ }
+// The same. Where the weight of the row is below 32768 no step can clamp (`plain`), and the sum is twice what `untested` gives.
+fn clamped_sum(a: &[i16; 11], x: i16, buf: &[i16; 50], at: usize, plain: bool) -> i32
+    requires { ⌜ (length (now buf) ≡ 50) × ((10 ≤ at) × ((at < 50) × (plain ≡ true → weight (now a) < 32768))) ⌝ }
     ensures { λ r. ⌜ r ≡ acc (now (a .entry)) x (take at (now (buf .entry))) 10 ⌝ }
 {
-    if light {
+    if plain {
         return untested(a, x, buf, at) * 2;
     }
     accumulated(a, x, buf, at)
@@ -95,10 +90,10 @@ pub fn first_samples(
     requires { ⌜ count ≤ 40 ⌝ }
     ensures { λ r. ⌜ r ≡ firstSamples count 10 coefficients excitation history ⌝ }
 {
-    let quick = light(&coefficients);
+    let plain = light(&coefficients);
     let mut buf = roomed(history);
     for n in 0..count {
-        let s = clamped_sum(&coefficients, excitation[n], &buf, n + 10, quick);
+        let s = clamped_sum(&coefficients, excitation[n], &buf, n + 10, plain);
         buf[n + 10] = round(l_shl(s, 3));
     }
     after_history(buf)
@@ -173,7 +168,7 @@ fn product(a: i16, y: i16) -> i32
 
 // The same of a row whose weight, |a0| + .. + |a10|, is below 32768: no number up to the sum can lie outside, and none is tested.
 fn untested(a: &[i16; 11], x: i16, buf: &[i16; 50], at: usize) -> i32
-    requires { ⌜ (length (now buf) ≡ 50) × ((10 ≤ at) × ((at < 50) × (weight (now a) 10 < 32768))) ⌝ }
+    requires { ⌜ (length (now buf) ≡ 50) × ((10 ≤ at) × ((at < 50) × (weight (now a) < 32768))) ⌝ }
     ensures { λ r. ⌜ Halved (now (a .entry)) x (take at (now (buf .entry))) 10 r false ⌝ }
 {
     let mut s = product(a[0], x);
@@ -194,21 +189,21 @@ fn size(v: i16) -> u32
 
 // The weight of the row is below 32768.
 pub fn light(a: &[i16; 11]) -> bool
-    ensures { λ r. ⌜ r ≡ ltb (weight (now (a .entry)) 10) 32768 ⌝ }
+    ensures { λ r. ⌜ r ≡ ltb (weight (now (a .entry))) 32768 ⌝ }
 {
-    let mut w = size(a[0]);
-    for k in 1..11 {
+    let mut w = 0;
+    for k in 0..11 {
         w = w + size(a[k]);
     }
     w < 32768
 }
 
 // The one or the other.
-fn summed(a: &[i16; 11], x: i16, buf: &[i16; 50], at: usize, light: bool) -> Sum
-    requires { ⌜ (length (now buf) ≡ 50) × ((10 ≤ at) × ((at < 50) × (light ≡ ltb (weight (now a) 10) 32768))) ⌝ }
+fn summed(a: &[i16; 11], x: i16, buf: &[i16; 50], at: usize, plain: bool) -> Sum
+    requires { ⌜ (length (now buf) ≡ 50) × ((10 ≤ at) × ((at < 50) × (plain ≡ true → weight (now a) < 32768))) ⌝ }
     ensures { λ r. ⌜ Halved (now (a .entry)) x (take at (now (buf .entry))) 10 (r .half) (r .out) ⌝ }
 {
-    if light {
+    if plain {
         return Sum {
             half: untested(a, x, buf, at) as i64,
             out: false,
@@ -243,10 +238,10 @@ struct Pass {
 fn first_pass(coefficients: [i16; 11], excitation: [i16; 40], history: [i16; 10]) -> Pass
     ensures { λ r. ⌜ (r .place ≡ overflowedAt 10 coefficients excitation history) × (r .buf ≡ fed (sample 10 coefficients) (take (r .place) excitation) history ++ replicate (40 - r .place) (pos 0)) ⌝ }
 {
-    let quick = light(&coefficients);
+    let plain = light(&coefficients);
     let mut buf = roomed(history);
     for n in 0..40 {
-        let s = summed(&coefficients, excitation[n], &buf, n + 10, quick);
+        let s = summed(&coefficients, excitation[n], &buf, n + 10, plain);
         let e = ended(s.half, s.out);
         if e.out {
             return Pass { buf, place: n };

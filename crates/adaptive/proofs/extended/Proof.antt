@@ -1,3 +1,4 @@
+-- `adaptive::extended` meets its contract: n samples are made, and `plain` is the test of all that stands.
 use mathlib.Core.Path.{refl, sym, ap, _∙_}
 use Prim.Native.Nat.{_+_, _-_, _*_, _<_, _≤_}
 use borrow.Author.Needs.{needs}
@@ -8,19 +9,19 @@ use mir.Syntax.{w16}
 use Rattle.lists.proofs.Signed.{got}
 use Rattle.lists.proofs.Grow.{Grown, grown-none, grown-more, grown-done}
 use Rattle.adaptive.specs.Predict.{coefficient, sampleAt, extended}
-use Rattle.adaptive.specs.Plain.{leftOf, rightOf, loud}
+use Rattle.adaptive.specs.Inner.{leftOf, rightOf, quiet}
 use Rattle.adaptive.proofs.Places.{phase-range, start-range}
 use Rattle.adaptive.proofs.Taps.{Row, lag-row}
 use Rattle.adaptive.proofs.Samples.{sample-same}
-use Rattle.adaptive.proofs.Quiet.{Tested, tested-no, tested-more}
+use Rattle.adaptive.proofs.Tested.{Tested, tested-yes, tested-more}
 use Rattle.adaptive.proofs.extended.Statement.{statement}
 use Rattle.adaptive.proofs.extended.Tie as tie
 
 abbrev Inv-loop : tie.InvT-loop
-Inv-loop taps phase start buffer₀ any₀ n₀ buffer any n = (n ≤ 40) × (Grown (sampleAt (pos start) (pos phase)) (take 154 buffer₀) 154 194 buffer n × Tested buffer (154 + n) any)
+Inv-loop taps phase start buffer₀ plain₀ n₀ buffer plain n = (n ≤ 40) × (Grown (sampleAt (pos start) (pos phase)) (take 154 buffer₀) 154 194 buffer n × Tested buffer (154 + n) plain)
 
 abbrev μ-loop : tie.MeasureT-loop
-μ-loop taps phase start buffer₀ any₀ n₀ buffer any n = 40 - n
+μ-loop taps phase start buffer₀ plain₀ n₀ buffer plain n = 40 - n
 
 top : (c : tie.After-phase-of Inv-loop μ-loop) → c .phase-of .result ≤ 4
 top c = phase-range (c .before .before .args .lag) _ (c .phase-of .ensures)
@@ -35,7 +36,7 @@ range c =
     start-range (s .args .lag) _ (s .pre .0) (s .pre .1) (c .start-of .ensures)
 
 loop-holds : tie.Need-loop-holds Inv-loop μ-loop
-loop-holds c = (search needs, (grown-none (search needs) refl, record { is = c .loud .ensures ∙ sym (ap loud (c .before .opened .ensures)) }))
+loop-holds c = (search needs, (grown-none (search needs) refl, record { is = c .quiet .ensures ∙ sym (ap quiet (c .before .opened .ensures)) }))
 
 add-sample : tie.Need-add-sample Inv-loop μ-loop
 add-sample c = record { fits = omega (arith, range (c .before .before .before .before .before) .1) }
@@ -52,7 +53,7 @@ sample-requires c κs =
     let b = range s in
     let n = l .loop .n in (
       (omega (arith, b .0), (omega (arith, b .1, i .loop-test), omega (arith, top p))),
-      (row p .light, tested-no (l .loop .inv .1 .1) (s .start-of .result + n + 11) (omega (arith, b .1))),
+      (row p .light, tested-yes (l .loop .inv .1 .1) (s .start-of .result + n + 11) (omega (arith, b .1))),
     )
 
 loop-again : tie.Need-loop-again Inv-loop μ-loop

@@ -1,5 +1,5 @@
 use mir.Facts.{toZ-ofZ}
-use Rattle.adaptive.specs.Plain.{large}
+use Rattle.adaptive.specs.Inner.{large}
 use Rattle.adaptive.proofs.large.Statement.{statement}
 use Rattle.adaptive.proofs.large.Tie as tie
 

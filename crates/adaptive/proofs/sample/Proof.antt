@@ -1,3 +1,4 @@
+-- `adaptive::sample` meets its contract: after i turns the sum is that of i turns, and by its size no step clamps where `plain` says so.
 use mathlib.Core.Path.{_≡_, refl, ap, _∙_}
 use Prim.Native.Nat.{_≤_, _-_}
 use borrow.Author.Needs.{needs}
@@ -9,17 +10,17 @@ use Rattle.lists.proofs.Count.{iter-done}
 use Rattle.basicop.specs.Ops.{L-mac, round}
 use Rattle.basicop.proofs.Calls.{L-mac-eq}
 use Rattle.adaptive.specs.Predict.{interpolated}
-use Rattle.adaptive.specs.Plain.{leftOf, rightOf}
+use Rattle.adaptive.specs.Inner.{leftOf, rightOf}
 use Rattle.basicop.proofs.Unclamped.{unclamped-eq}
-use Rattle.adaptive.proofs.Sums.{Summed, summed-none, first-plain, second-plain, summed-more}
+use Rattle.adaptive.proofs.Sums.{Summed, summed-none, first, second, summed-more}
 use Rattle.adaptive.proofs.sample.Statement.{statement}
 use Rattle.adaptive.proofs.sample.Tie as tie
 
 abbrev Inv-loop : tie.InvT-loop
-Inv-loop x first taps row loud sum₀ i₀ sum i = (i ≤ 10) × Summed x first (leftOf taps row) (rightOf taps row) loud (toZ w32 sum) i
+Inv-loop x first taps row plain sum₀ i₀ sum i = (i ≤ 10) × Summed x first (leftOf taps row) (rightOf taps row) plain (toZ w32 sum) i
 
 abbrev μ-loop : tie.MeasureT-loop
-μ-loop x first taps row loud sum₀ i₀ sum i = 10 - i
+μ-loop x first taps row plain sum₀ i₀ sum i = 10 - i
 
 loop-holds : tie.Need-loop-holds Inv-loop μ-loop
 loop-holds c = (search needs, summed-none _ _ _ _ _ refl)
@@ -28,7 +29,7 @@ mac-requires : tie.Need-mac-requires Inv-loop μ-loop
 mac-requires c κs q =
     let l = c .before .before .before in
     let s = l .before in
-    unclamped-eq (back w16 (c .before .mac-arg .given)) (back w16 (c .mac-arg2 .given)) (first-plain _ _ _ _ _ (s .pre .1 .0) (s .pre .1 .1) (search needs) (l .loop .inv .1) (search needs) q)
+    unclamped-eq (back w16 (c .before .mac-arg .given)) (back w16 (c .mac-arg2 .given)) (first _ _ _ _ _ (s .pre .1 .0) (s .pre .1 .1) (search needs) (l .loop .inv .1) (search needs) q .plain)
 
 -- the sum after the first step
 after-first : (c : tie.After-mac Inv-loop μ-loop) → toZ w32 (ofZ w32 (c .mac .result)) ≡ L-mac (toZ w32 (c .before .before .before .before .loop .sum)) (at (c .before .before .before .before .before .args .x .now) (c .before .before .before .before .before .args .first - c .before .before .before .before .loop .i)) (leftOf (c .before .before .before .before .before .args .taps .now) (c .before .before .before .before .before .args .row) (c .before .before .before .before .loop .i))
@@ -39,7 +40,7 @@ mac-requires-2 c κs q =
     let m = c .before .before in
     let l = m .before .before .before .before in
     let s = l .before in
-    unclamped-eq (back w16 (c .before .mac-arg3 .given)) (back w16 (c .mac-arg4 .given)) (second-plain _ _ _ _ _ (s .pre .1 .0) (s .pre .1 .1) (search needs) (l .loop .inv .1) (search needs) (after-first m) q)
+    unclamped-eq (back w16 (c .before .mac-arg3 .given)) (back w16 (c .mac-arg4 .given)) (second _ _ _ _ _ (s .pre .1 .0) (s .pre .1 .1) (search needs) (l .loop .inv .1) (search needs) (after-first m) q .plain)
 
 loop-again : tie.Need-loop-again Inv-loop μ-loop
 loop-again c =

@@ -5,7 +5,7 @@ use mir.Syntax.{w16}
 use Rattle.lists.proofs.Entries.{length-tab, at-tab}
 use Rattle.lists.proofs.Signed.{got}
 use Rattle.lists.proofs.Place.{Placed, placed-none, placed-more, placed-done}
-use Rattle.adaptive.specs.Plain.{tap, row}
+use Rattle.adaptive.specs.Inner.{tap, row}
 use Rattle.adaptive.proofs.with_row.Statement.{statement}
 use Rattle.adaptive.proofs.with_row.Tie as tie
 

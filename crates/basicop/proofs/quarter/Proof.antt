@@ -1,13 +1,14 @@
+-- `basicop::quarter` meets its contract: what is quartered, and what is left, quartered, is all, quartered.
+use Prim.Native.Nat.{_-_}
 use mathlib.Core.Path.{ap, _∙_}
-use Prim.Native.Nat.{_≤_, _-_}
 use borrow.Author.Needs.{needs}
 use lib.IntN.{ℤ, pos}
-use lib.ListN.{length-map}
+use lib.ListN.{length}
 use mir.Syntax.{w16}
+use Rattle.lists.specs.Lists.{at}
 use Rattle.lists.proofs.Signed.{back, got}
-use Rattle.lists.proofs.Entries.{at-map}
-use Rattle.lists.proofs.Fill.{Filled, fill-none, fill-more, fill-whole}
-use Rattle.basicop.specs.Ops.{shr, quartered}
+use Rattle.lists.proofs.Map.{Mapping, map-none, map-more, map-done}
+use Rattle.basicop.specs.Ops.{shr}
 use Rattle.basicop.proofs.quarter.Statement.{statement}
 use Rattle.basicop.proofs.quarter.Tie as tie
 
@@ -15,25 +16,18 @@ abbrev down : ℤ → ℤ
 down z = shr z (pos 2)
 
 abbrev Inv-loop : tie.InvT-loop
-Inv-loop src r₀ i₀ r i = (i ≤ 40) × Filled 40 40 (quartered src) r i
+Inv-loop samples₀ i₀ samples i = Mapping down samples₀ samples i
 
 abbrev μ-loop : tie.MeasureT-loop
-μ-loop src r₀ i₀ r i = 40 - i
-
-loop-holds : tie.Need-loop-holds Inv-loop μ-loop
-loop-holds c = (search needs, fill-none (length-map (c .args .t1) down ∙ search needs) (search needs))
+μ-loop samples₀ i₀ samples i = length samples₀ - i
 
 loop-again : tie.Need-loop-again Inv-loop μ-loop
 loop-again c =
-    let l = c .before .before .before in (
-      search needs,
-      fill-more (l .loop .inv .1)
-          (got w16 (c .shr .ok) (c .shr .ensures ∙ ap down (back w16 (c .before .shr-arg .given)) ∙ at-map down (l .before .args .t1) (l .loop .i) (search needs)))
-          (search needs) (search needs),
-    )
+    let l = c .before .before .before in
+    map-more (l .loop .inv) (got w16 (c .shr .ok) (c .shr .ensures ∙ ap down (back w16 {z = at (l .loop .samples) (l .loop .i)} (c .before .shr-arg .given)))) (search needs)
 
 returns : tie.Need-returns Inv-loop μ-loop
-returns c = fill-whole (c .before .loop .inv .1) (search needs)
+returns c = map-done (c .before .loop .inv) (search needs)
 
 pub quarter-spec : {M : Type 1} → statement M
 quarter-spec =
@@ -41,7 +35,7 @@ quarter-spec =
     (tie.spec
     Inv-loop
     μ-loop
-    loop-holds
+    (λ c. map-none _)
     (λ c. search needs)
     (λ c. search needs)
     (λ c κs. search needs)
@@ -50,4 +44,5 @@ quarter-spec =
     (λ c. search needs)
     (λ c. search needs)
     loop-again
+    (λ c. search needs)
     returns)

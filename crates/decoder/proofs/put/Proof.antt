@@ -1,37 +1,23 @@
-use Prim.Native.Nat.{_*_, _≤_, _-_}
+-- `decoder::put` meets its contract: a copy into a part of the frame.
+use Prim.Native.Nat.{_+_, _-_, _*_}
+use mathlib.Core.Path.{_≡_}
+use native.Mathlib.Omega.{arith}
 use borrow.Author.Needs.{needs}
-use mir.Syntax.{w16}
-use Rattle.lists.specs.Lists.{at}
-use Rattle.lists.proofs.Signed.{back}
-use Rattle.lists.proofs.Place.{Placed, placed-none, placed-more, placed-done}
+use Rattle.lists.proofs.Put.{put-front}
 use Rattle.decoder.proofs.put.Statement.{statement}
 use Rattle.decoder.proofs.put.Tie as tie
 
-abbrev Inv-loop : tie.InvT-loop
-Inv-loop subframe samples r₀ i₀ r i = (i ≤ 40) × Placed (40 * subframe) 40 160 r₀ samples r i
-
-abbrev μ-loop : tie.MeasureT-loop
-μ-loop subframe samples r₀ i₀ r i = 40 - i
-
-loop-holds : tie.Need-loop-holds Inv-loop μ-loop
-loop-holds c = (search needs, placed-none (search needs) (search needs) (search needs))
-
-loop-again : tie.Need-loop-again Inv-loop μ-loop
-loop-again c =
-    let l = c .before .before in
-    let x = l .before .args .t2 in
-    (search needs, placed-more (l .loop .inv .1) (back w16 {z = at x (l .loop .i)} (c .r .given)) (search needs))
-
-returns : tie.Need-returns Inv-loop μ-loop
-returns c = placed-done (c .before .loop .inv .1) (search needs)
+returns : tie.Need-returns
+returns c =
+    let a = c .before .before .before .before .args in
+    let n = 40 * a .subframe in
+    let e : n + 40 - n ≡ 40 = omega arith in
+    rw (e, c .before .copy .ensures) (put-front n 40 (a .frame) (a .t2) (search needs) (search needs))
 
 pub put-spec : {M : Type 1} → statement M
 put-spec =
     tie.close
     (tie.spec
-    Inv-loop
-    μ-loop
-    loop-holds
     (λ c. search needs)
     (λ c. search needs)
     (λ c. search needs)
@@ -39,6 +25,5 @@ put-spec =
     (λ c. search needs)
     (λ c. search needs)
     (λ c. search needs)
-    (λ c. search needs)
-    loop-again
+    (λ c κs. search needs)
     returns)

@@ -1,3 +1,4 @@
+-- `decoder::synthesise` meets its contract: by the place of the first pass, the samples of that pass or those of a second on what is quartered.
 use mathlib.Core.Path.{ap, _∙_}
 use borrow.Author.Needs.{needs}
 use Rattle.synthesis.specs.declared.Output.{Output}
@@ -8,15 +9,16 @@ use Rattle.decoder.proofs.synthesise.Tie as tie
 
 returns : tie.Need-returns
 returns c =
-    let q = c .before .before .before .before in
-    let f = q .before .before in
+    let p = c .before .before .before .before in
+    let q = p .before .before .before in
+    let f = q .before .before .before in
     let s = f .before in
     synthesised-again (s .args .row) (s .args .feedback) (s .args .excitation) (s .args .history) (s .args .past) (search needs)
     (ap (λ (o : Output). o .place) (f .preview .ensures))
-    (q .before .if1 .taken)
-    (q .quarter .ensures)
-    (ap (λ (o : Filtered). o .samples) (c .before .before .before .filter .ensures))
-    (c .take-in .ensures ∙ rw (c .before .quarter-past .ensures))
+    (q .before .before .if1 .taken)
+    (q .quarter2 .ensures)
+    (ap (λ (o : Filtered). o .samples) (c .before .before .filter .ensures))
+    (c .take-in .ensures ∙ rw (p .quarter4 .ensures))
 
 returns-2 : tie.Need-returns-2
 returns-2 c =
@@ -33,7 +35,9 @@ synthesise-spec =
     tie.close
     (tie.spec
     (λ c κs. search needs)
+    (λ c. search needs)
     (λ c κs. search needs)
+    (λ c. search needs)
     (λ c κs. search needs)
     (λ c κs. search needs)
     (λ c κs. search needs)

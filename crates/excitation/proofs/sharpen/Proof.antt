@@ -1,11 +1,10 @@
+-- `excitation::sharpen` meets its contract: the samples so far are sharpened, those from here on as they came.
 use mathlib.Core.Path.{ap, _∙_}
 use Prim.Native.Nat.{_≤_, _-_}
 use borrow.Author.Needs.{needs}
 use mathlib.Core.List.{[]}
 use lib.IntN.{ℤ, pos}
 use mir.Syntax.{w16}
-use mir.Val.{SFits, toZ}
-use mir.Facts.{toZ-ofZ}
 use Rattle.lists.specs.Lists.{at, iter, grow}
 use Rattle.lists.proofs.Signed.{back, got}
 use Rattle.excitation.specs.Excitation.{sharpenedAt, sharpened}
@@ -14,10 +13,10 @@ use Rattle.excitation.proofs.sharpen.Statement.{statement}
 use Rattle.excitation.proofs.sharpen.Tie as tie
 
 abbrev Inv-loop : tie.InvT-loop
-Inv-loop lag g code₀ i₀ code i = (lag ≤ i) × Sharper code₀ lag (toZ w16 g) code i
+Inv-loop lag doubled code₀ i₀ code i = (lag ≤ i) × Sharper code₀ lag (doubled .0) code i
 
 abbrev μ-loop : tie.MeasureT-loop
-μ-loop lag g code₀ i₀ code i = 40 - i
+μ-loop lag doubled code₀ i₀ code i = 40 - i
 
 loop-holds : tie.Need-loop-holds Inv-loop μ-loop
 loop-holds c = (search needs, sharper-none _ _ _ (search needs))
@@ -26,16 +25,15 @@ loop-again : tie.Need-loop-again Inv-loop μ-loop
 loop-again c =
     let l = c .before .before .before .before in
     let e = back w16 {z = at (l .loop .code) (l .loop .i)} (c .before .before .sharper-arg .given) in
-    let b = back w16 {z = at (l .loop .code) (l .loop .i - l .before .before .before .args .lag)} (c .before .sharper-arg2 .given) in
+    let b = back w16 {z = at (l .loop .code) (l .loop .i - l .before .before .args .lag)} (c .before .sharper-arg2 .given) in
     (search needs, sharper-more _ _ _ (l .loop .inv .1) (search needs) (search needs) (search needs) (got w16 (c .sharper .ok) (c .sharper .ensures ∙ rw (e, b))))
 
 returns : tie.Need-returns Inv-loop μ-loop
 unfolding sharpened
 returns c =
-    let s = c .before .before .before .before in
-    let d = c .before .before .before .doubled in
-    let f : SFits w16 (d .result .0) = search needs in
-    sharper-done _ _ _ (c .before .loop .inv .1) (search needs) ∙ ap (λ (g : ℤ). iter (grow (sharpenedAt (s .args .innovation) (pos (s .args .lag)) g)) 40 []) (toZ-ofZ f ∙ d .ensures)
+    let s = c .before .before .before in
+    let d = c .before .before .doubled in
+    sharper-done _ _ _ (c .before .loop .inv .1) (search needs) ∙ ap (λ (g : ℤ). iter (grow (sharpenedAt (s .args .innovation) (pos (s .args .lag)) g)) 40 []) (d .ensures)
 
 pub sharpen-spec : {M : Type 1} → statement M
 sharpen-spec =

@@ -1,5 +1,5 @@
 -- The checks, then the frame or the refusal: answer-accepted, answer-refused. What the checks have shown makes the sheet's inputs usable.
-use mathlib.Core.Path.{ap, sym, _∙_, subst}
+use mathlib.Core.Path.{_≡_, ap, sym, _∙_, subst}
 use borrow.Author.Needs.{needs}
 use denote.Ref.{now}
 use lib.ListN.{length}
@@ -25,13 +25,16 @@ inputs-requires c κs = shown c .ready
 decode-requires : tie.Need-decode-requires
 decode-requires c κs = subst Usable (sym (c .inputs .ensures)) (usable (shown (c .before)))
 
+made : (c : tie.After-decode) → length (c .decode .result .samples) ≡ 160
+made c = search needs
+
 copy-requires : tie.Need-copy-requires
-copy-requires c κs = shown (c .before .before .before .before) .lent
+copy-requires c κs = shown (c .before .before .before .before .before) .lent ∙ sym (made (c .before .before .before))
 
 returns : tie.Need-returns
 returns c =
     let k = c .before .before .before .before in
-    let d = k .before .before .before in
+    let d = k .before .before .before .before in
     let t = d .before .before in
     let v = t .before .before in
     let a = v .before .args in
@@ -52,6 +55,7 @@ frame-spec =
     (λ c κs. search needs)
     inputs-requires
     decode-requires
+    (λ c. search needs)
     copy-requires
     (λ c. search needs)
     returns

@@ -1,3 +1,4 @@
+-- `postfilter::excitation` meets its contract: preemphasis of the residual, whose last is kept.
 use mathlib.Core.Path.{_∙_}
 use borrow.Author.Needs.{needs}
 use mir.Syntax.{w16}
@@ -12,7 +13,7 @@ returns c =
     let p = c .before in
     let r = p .before in
     let s = r .before in
-    (rw (toZ-ofZ (s .fits .tilt), toZ-ofZ (s .fits .carried), r .residual .ensures) at (p .preemphasis .ensures), back w16 {z = at (r .residual .result) 39} (c .t11 .given) ∙ rw (r .residual .ensures))
+    (rw (toZ-ofZ (s .fits .carried), r .residual .ensures) at (p .preemphasis .ensures), back w16 {z = at (r .residual .result) 39} (c .t11 .given) ∙ rw (r .residual .ensures))
 
 pub excitation-spec : {M : Type 1} → statement M
 excitation-spec =

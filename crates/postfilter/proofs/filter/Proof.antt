@@ -1,3 +1,4 @@
+-- `postfilter::filter` meets its contract: the subframe by its steps.
 use mathlib.Core.Path.{_∙_}
 use borrow.Author.Needs.{needs}
 use Prim.Native.Nat.{_<_, _^_}
@@ -27,10 +28,9 @@ returns c =
     let n = d .before .before in
     let a = n .before .before .args in
     let m = a .memory in
-    let u = back w16 {z = t .tilt-of .result} (t .tilt-of .ok) in
     let r = back w16 {z = m .«previous_residual»} (carried (x .before)) in
     let l = back w16 {z = x .excitation .result .last} (last (s .before .before)) in
-    filtered-by m (a .coefficients) (a .samples) (n .weight .ensures) (d .weight2 .ensures) (t .tilt-of .ensures ∙ rw (t .before .impulse .ensures)) (rw (u, r) at (x .excitation .ensures .0)) (l ∙ x .excitation .ensures .1) (s .filter .ensures) (g .control-gain .ensures) (c .newest .ensures)
+    filtered-by m (a .coefficients) (a .samples) (n .weight .ensures) (d .weight2 .ensures) (t .tilt-of .ensures ∙ rw (t .before .impulse .ensures)) (rw r at (x .excitation .ensures .0)) (l ∙ x .excitation .ensures .1) (s .filter .ensures) (g .control-gain .ensures) (c .newest .ensures)
 
 pub filter-spec : {M : Type 1} → statement M
 filter-spec =

@@ -1,45 +1,32 @@
-use mathlib.Core.Path.{sym, _∙_}
-use Prim.Native.Nat.{_≤_, _-_}
+-- `postfilter::joined` meets its contract: two copies fill the buffer.
+use mathlib.Core.Path.{_∙_, refl}
 use borrow.Author.Needs.{needs}
-use lib.Seq.{take-all}
-use mir.Syntax.{w16}
-use Rattle.lists.specs.Lists.{at}
-use Rattle.lists.proofs.Signed.{back}
-use Rattle.lists.proofs.Place.{Placed, placed-none, placed-more, placed-done}
+use lib.IntN.{pos}
+use lib.ListN.{replicate}
+use Rattle.lists.proofs.Put.{put-room, put-two}
 use Rattle.postfilter.proofs.joined.Statement.{statement}
 use Rattle.postfilter.proofs.joined.Tie as tie
 
-abbrev Inv-loop : tie.InvT-loop
-Inv-loop samples r₀ i₀ r i = (i ≤ 40) × Placed 10 40 50 r₀ samples r i
+room : tie.Need-part-r-end-2
+room c = put-room 0 10 50 (replicate 50 (pos 0)) (c .before .copy .last .0) (search needs) (search needs) (search needs)
 
-abbrev μ-loop : tie.MeasureT-loop
-μ-loop samples r₀ i₀ r i = 40 - i
-
-loop-holds : tie.Need-loop-holds Inv-loop μ-loop
-loop-holds c = (search needs, placed-none (search needs) (search needs) (search needs))
-
-loop-again : tie.Need-loop-again Inv-loop μ-loop
-loop-again c =
-    let l = c .before .before in
-    let x = l .before .args .t2 in
-    (search needs, placed-more (l .loop .inv .1) (back w16 {z = at x (l .loop .i)} (c .r .given)) (search needs))
-
-returns : tie.Need-returns Inv-loop μ-loop
-returns c = sym (take-all 50 (c .before .loop .r) (search needs)) ∙ placed-done (c .before .loop .inv .1) (search needs)
+returns : tie.Need-returns
+returns c =
+    let k = c .before .before .before .before .before in
+    put-two 10 40 (replicate 50 (pos 0)) (k .copy .last .0) (c .before .copy2 .last .0) refl (search needs) ∙ rw (k .copy .ensures, c .before .copy2 .ensures)
 
 pub joined-spec : {M : Type 1} → statement M
 joined-spec =
     tie.close
     (tie.spec
-    Inv-loop
-    μ-loop
-    loop-holds
     (λ c. search needs)
     (λ c. search needs)
     (λ c. search needs)
     (λ c. search needs)
+    (λ c κs. search needs)
     (λ c. search needs)
     (λ c. search needs)
+    room
     (λ c. search needs)
-    loop-again
+    (λ c κs. search needs)
     returns)

@@ -1,3 +1,4 @@
+-- `postfilter::preemphasis` meets its contract: the first i are emphasised, and `previous` is the residual before the next.
 use mathlib.Core.Path.{_≡_, refl, _∙_}
 use mathlib.Core.List.{_∷_}
 use Prim.Native.Nat.{_≤_, _-_}
@@ -15,7 +16,7 @@ use Rattle.postfilter.proofs.preemphasis.Statement.{statement}
 use Rattle.postfilter.proofs.preemphasis.Tie as tie
 
 abbrev Inv-loop : tie.InvT-loop
-Inv-loop tilt carried residual r₀ previous₀ i₀ r previous i = (i ≤ 40) × (Filled 40 40 (preemphasised (toZ w16 tilt) (toZ w16 carried) residual) r i × (toZ w16 previous ≡ at (toZ w16 carried ∷ residual) i))
+Inv-loop tilt carried residual r₀ previous₀ i₀ r previous i = (i ≤ 40) × (Filled 40 40 (preemphasised (tilt .0) (toZ w16 carried) residual) r i × (toZ w16 previous ≡ at (toZ w16 carried ∷ residual) i))
 
 abbrev μ-loop : tie.MeasureT-loop
 μ-loop tilt carried residual r₀ previous₀ i₀ r previous i = 40 - i
@@ -38,7 +39,7 @@ loop-again c =
     )
 
 returns : tie.Need-returns Inv-loop μ-loop
-returns c = rw (toZ-ofZ (c .before .before .fits .tilt), toZ-ofZ (c .before .before .fits .carried)) at (fill-whole (c .before .loop .inv .1 .0) (search needs))
+returns c = rw (toZ-ofZ (c .before .before .fits .carried)) at (fill-whole (c .before .loop .inv .1 .0) (search needs))
 
 pub preemphasis-spec : {M : Type 1} → statement M
 preemphasis-spec =

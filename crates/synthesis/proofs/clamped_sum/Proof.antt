@@ -1,6 +1,5 @@
+-- `synthesis::clamped_sum` meets its contract: of a light row twice the half is the clamped sum.
 use borrow.Author.Needs.{needs}
-use borrow.Author.Tests.{ltb-true}
-use mathlib.Core.Path.{sym, _∙_}
 use mir.Syntax.{w16, w32}
 use mir.Facts.{toZ-ofZ}
 use Rattle.lists.proofs.Signed.{back, got}
@@ -11,7 +10,7 @@ use Rattle.synthesis.proofs.clamped_sum.Tie as tie
 untested-requires : tie.Need-untested-requires
 untested-requires c κs =
     let p = c .before .pre in
-    (p .0, (p .1 .0, (p .1 .1 .0, ltb-true _ 32768 (sym (p .1 .1 .1) ∙ c .if1 .taken))))
+    (p .0, (p .1 .0, (p .1 .1 .0, p .1 .1 .1 (c .if1 .taken))))
 
 mul-result : tie.Need-mul-result
 mul-result c = rw (back w32 (c .untested .ok)) (halved-fits (c .untested .ensures))

@@ -1,6 +1,8 @@
+-- `synthesis::first_pass` meets its contract: n samples are fed, and none of their numbers lies outside.
 use Prim.Native.Nat.{_+_, _≤_, _-_}
 use borrow.Author.Needs.{needs}
-use mathlib.Core.Path.{_≡_}
+use borrow.Author.Tests.{ltb-true}
+use mathlib.Core.Path.{_≡_, sym, _∙_}
 use lib.ListN.{take}
 use mir.Syntax.{w16, w64}
 use mir.Val.{toZ, ofZ}
@@ -11,10 +13,10 @@ use Rattle.synthesis.proofs.first_pass.Statement.{statement}
 use Rattle.synthesis.proofs.first_pass.Tie as tie
 
 abbrev Inv-loop : tie.InvT-loop
-Inv-loop a x quick buf₀ n₀ buf n = (n ≤ 40) × Passing a x (take 10 buf₀) buf n
+Inv-loop a x plain buf₀ n₀ buf n = (n ≤ 40) × Passing a x (take 10 buf₀) buf n
 
 abbrev μ-loop : tie.MeasureT-loop
-μ-loop a x quick buf₀ n₀ buf n = 40 - n
+μ-loop a x plain buf₀ n₀ buf n = 40 - n
 
 loop-holds : tie.Need-loop-holds Inv-loop μ-loop
 loop-holds c =
@@ -23,7 +25,7 @@ loop-holds c =
 
 summed-requires : tie.Need-summed-requires Inv-loop μ-loop
 summed-requires c κs =
-    (search needs, (search needs, (search needs, c .before .before .before .before .before .before .light .ensures)))
+    (search needs, (search needs, (search needs, λ q. ltb-true _ 32768 (sym (c .before .before .before .before .before .before .light .ensures) ∙ q))))
 
 returns : tie.Need-returns Inv-loop μ-loop
 returns c =

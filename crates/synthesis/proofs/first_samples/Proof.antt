@@ -1,6 +1,8 @@
+-- `synthesis::first_samples` meets its contract: n samples are fed, and zeros stand after them.
 use Prim.Native.Nat.{_≤_, _-_}
 use borrow.Author.Needs.{needs}
-use mathlib.Core.Path.{_≡_, ap, _∙_}
+use borrow.Author.Tests.{ltb-true}
+use mathlib.Core.Path.{_≡_, sym, ap, _∙_}
 use lib.IntN.{pos}
 use lib.ListN.{length, take, drop, replicate}
 use mir.Syntax.{w16, w32}
@@ -12,10 +14,10 @@ use Rattle.synthesis.proofs.first_samples.Statement.{statement}
 use Rattle.synthesis.proofs.first_samples.Tie as tie
 
 abbrev Inv-loop : tie.InvT-loop
-Inv-loop count a x quick buf₀ n₀ buf n = (n ≤ count) × Feeding (sample 10 a) x (take 10 buf₀) buf n
+Inv-loop count a x plain buf₀ n₀ buf n = (n ≤ count) × Feeding (sample 10 a) x (take 10 buf₀) buf n
 
 abbrev μ-loop : tie.MeasureT-loop
-μ-loop count a x quick buf₀ n₀ buf n = count - n
+μ-loop count a x plain buf₀ n₀ buf n = count - n
 
 loop-holds : tie.Need-loop-holds Inv-loop μ-loop
 loop-holds c =
@@ -24,7 +26,7 @@ loop-holds c =
 
 clamped-sum-requires : tie.Need-clamped-sum-requires Inv-loop μ-loop
 clamped-sum-requires c κs =
-    (search needs, (search needs, (search needs, c .before .before .before .before .before .before .light .ensures)))
+    (search needs, (search needs, (search needs, λ q. ltb-true _ 32768 (sym (c .before .before .before .before .before .before .light .ensures) ∙ q))))
 
 loop-again : tie.Need-loop-again Inv-loop μ-loop
 loop-again c =

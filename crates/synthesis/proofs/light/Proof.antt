@@ -1,3 +1,4 @@
+-- `synthesis::light` meets its contract: after k turns the sum is the weight of the first k coefficients.
 use Prim.Native.Nat.{ℕ, _≤_, _-_}
 use borrow.Author.Needs.{needs}
 use mathlib.Core.Path.{_≡_, ap, _∙_}
@@ -12,27 +13,24 @@ use Rattle.synthesis.proofs.light.Statement.{statement}
 use Rattle.synthesis.proofs.light.Tie as tie
 
 abbrev Inv-loop : tie.InvT-loop
-Inv-loop a w₀ k₀ w k = (1 ≤ k) × ((k ≤ 11) × Weighed a w k)
+Inv-loop a w₀ k₀ w k = (k ≤ 11) × Weighed a w k
 
 abbrev μ-loop : tie.MeasureT-loop
 μ-loop a w₀ k₀ w k = 11 - k
 
-loop-holds : tie.Need-loop-holds Inv-loop μ-loop
-loop-holds c = (search needs, (search needs, weighed-none (c .size .ensures .0 ∙ ap natAbs (back w16 {z = at (c .before .before .args .a .now) 0} (c .before .size-arg .given))) (c .size .ensures .1)))
-
 add-w : tie.Need-add-w Inv-loop μ-loop
-add-w c = record { fits = omega (arith, c .before .before .before .loop .inv .1 .1 .most, c .size2 .ensures .1) }
+add-w c = record { fits = omega (arith, c .before .before .before .loop .inv .1 .most, c .size .ensures .1) }
 
 loop-again : tie.Need-loop-again Inv-loop μ-loop
 loop-again c =
     let l = c .before .before .before in
-    (search needs, (search needs, weighed-more (l .loop .inv .1 .1) (search needs) (c .size2 .ensures .0 ∙ ap natAbs (back w16 {z = at (l .before .before .before .args .a .now) (l .loop .k)} (c .before .size-arg2 .given))) (c .size2 .ensures .1)))
+    (search needs, weighed-more (l .loop .inv .1) (c .size .ensures .0 ∙ ap natAbs (back w16 {z = at (l .before .args .a .now) (l .loop .k)} (c .before .size-arg .given))) (c .size .ensures .1))
 
 returns : tie.Need-returns Inv-loop μ-loop
 returns c =
     let l = c .before in
-    let k : l .loop .k - 1 ≡ 10 = search needs in
-    ap (λ (w : ℕ). ltb w 32768) (rw k at (l .loop .inv .1 .1 .is))
+    let k : l .loop .k ≡ 11 = search needs in
+    ap (λ (w : ℕ). ltb w 32768) (rw k at (l .loop .inv .1 .is))
 
 pub light-spec : {M : Type 1} → statement M
 light-spec =
@@ -40,9 +38,7 @@ light-spec =
     (tie.spec
     Inv-loop
     μ-loop
-    (λ c. search needs)
-    (λ c κs. search needs)
-    loop-holds
+    (λ c. (search needs, weighed-none))
     (λ c. search needs)
     (λ c. search needs)
     (λ c κs. search needs)

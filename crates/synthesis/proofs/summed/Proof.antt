@@ -1,6 +1,5 @@
+-- `synthesis::summed` meets its contract: of a light row no number lies outside.
 use borrow.Author.Needs.{needs}
-use borrow.Author.Tests.{ltb-true}
-use mathlib.Core.Path.{sym, _∙_}
 use mir.Syntax.{w16, w32}
 use mir.Facts.{toZ-ofZ}
 use Rattle.lists.proofs.Signed.{back}
@@ -11,7 +10,7 @@ use Rattle.synthesis.proofs.summed.Tie as tie
 untested-requires : tie.Need-untested-requires
 untested-requires c κs =
     let p = c .before .pre in
-    (p .0, (p .1 .0, (p .1 .1 .0, ltb-true _ 32768 (sym (p .1 .1 .1) ∙ c .if1 .taken))))
+    (p .0, (p .1 .0, (p .1 .1 .0, p .1 .1 .1 (c .if1 .taken))))
 
 cast-t8 : tie.Need-cast-t8
 cast-t8 c = search needsℤ

@@ -12,10 +12,10 @@ use Rattle.energy.proofs.sum.energy.Tie as tie
 
 returns : tie.Need-returns
 returns c =
-    let q = c .before .before in
-    let s = q .before .before in
+    let q = c .before .before .before in
+    let s = q .before .before .before in
     got w32 (c .squares2 .ok) (c .squares2 .ensures ∙ ap squares (q .quarter .ensures))
-    ∙ energy-again (s .before .before .args .t1) (less-yes (rw (got w32 (s .squares .ok) (s .squares .ensures)) at (q .before .if1 .taken)))
+    ∙ energy-again (s .before .before .args .t1) (less-yes (rw (got w32 (s .squares .ok) (s .squares .ensures)) at (q .before .before .if1 .taken)))
 
 returns-2 : tie.Need-returns-2
 returns-2 c =
@@ -29,6 +29,7 @@ energy-spec =
     (tie.spec
     (λ c. search needs)
     (λ c κs. search needs)
+    (λ c. search needs)
     (λ c κs. search needs)
     (λ c. search needs)
     (λ c κs. search needs)

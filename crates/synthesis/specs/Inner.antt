@@ -1,18 +1,18 @@
--- What the steps of the first pass say of a sample's whole numbers (Whole.antt), which are even up to the sum and are kept at half their size.
-use Prim.Native.Nat.{ℕ, zero, suc, _+_, _≤_}
+-- For inner functions: what the steps of the first pass say of a sample's whole numbers (Whole.antt), which are even up to the sum and are kept at half their size.
+use Prim.Native.Nat.{ℕ, _≤_}
 use mathlib.Core.Path.{_≡_}
 use mathlib.Core.Bool.{Bool, false, _||_}
 use mathlib.Core.List.{List}
 use lib.IntN.{ℤ, pos, natAbs, _+ℤ_, _*ℤ_}
 use Rattle.lists.specs.Lists.{at}
 use Rattle.basicop.specs.Ops.{asr}
+use Rattle.basicop.specs.Inner.{sizes}
 use Rattle.synthesis.specs.Fed.{outside, leaves}
 use Rattle.synthesis.specs.Whole.{sum, sums}
 
--- the weight of the coefficients 0 to k: |a0| + .. + |ak|
-unfoldable pub weight : List ℤ → ℕ → ℕ
-weight a zero = natAbs (at a 0)
-weight a (suc k) = weight a k + natAbs (at a (suc k))
+-- the weight of a row: |a0| + .. + |a10|
+abbrev pub weight : List ℤ → ℕ
+weight a = sizes (at a) 11
 
 -- whether a number up to the sum lies outside, and half the sum where none does
 pub record Halved (a : List ℤ) (x : ℤ) (y : List ℤ) (k : ℕ) (half : ℤ) (out : Bool) : Type 0 where

@@ -1,13 +1,14 @@
--- What the code's plain sums rest on: taps in the order of the samples, the sizes of a row's taps, and which numbers are large.
+-- For inner functions: what the code's plain sums rest on: taps in the order of the samples, the sizes of a row's taps, and which numbers are large.
 -- A light row over numbers that are not large comes to at most 2 × 16384 × 65535, which is below 2 ^ 31: no L_mac clamps.
 use mathlib.Core.Path.{_≡_}
-use mathlib.Core.Bool.{Bool, false, cond, _||_}
+use mathlib.Core.Bool.{Bool, true, false, cond, not, _&&_, _||_}
 use mathlib.Core.List.{List, _++_, foldl}
 use Prim.Native.Nat.{ℕ, _+_, _-_, _<_}
 use lib.Dec.{ltb}
-use lib.IntN.{ℤ, pos, natAbs, _-ℤ_}
+use lib.IntN.{ℤ, pos, _-ℤ_}
 use lib.Signed.{ltZ}
-use Rattle.lists.specs.Lists.{minus, at, iter, tab}
+use Rattle.lists.specs.Lists.{minus, at, tab}
+use Rattle.basicop.specs.Inner.{sizes}
 use Rattle.adaptive.specs.Predict.{coefficient}
 
 -- tap j of phase f: ten to the left, from the furthest on, and ten to the right
@@ -29,13 +30,9 @@ leftOf taps n i = at taps (n + 9 - i)
 abbrev pub rightOf : List ℤ → ℕ → ℕ → ℤ
 rightOf taps n i = at taps (n + 10 + i)
 
--- the sum of the sizes of the first n coefficients of both sides
-abbrev pub sizes : (ℕ → ℤ) → (ℕ → ℤ) → ℕ → ℕ
-sizes c d n = iter (λ (i s : ℕ). s + natAbs (c i) + natAbs (d i)) n 0
-
--- the row that starts at n is light
+-- the row that starts at n is light: the sizes of its coefficients come to less than 65536
 abbrev pub Light : List ℤ → ℕ → Type 0
-Light taps n = sizes (leftOf taps n) (rightOf taps n) 10 < 65536
+Light taps n = sizes (leftOf taps n) 10 + sizes (rightOf taps n) 10 < 65536
 
 abbrev pub limit : ℕ
 limit = 16384
@@ -44,9 +41,9 @@ limit = 16384
 unfoldable pub large : ℤ → Bool
 large x = ltZ x (minus limit) || ltZ (pos (limit - 1)) x
 
--- some number is large
-unfoldable pub loud : List ℤ → Bool
-loud xs = foldl (λ (b : Bool) (x : ℤ). b || large x) false xs
+-- no number is large
+unfoldable pub quiet : List ℤ → Bool
+quiet xs = foldl (λ (b : Bool) (x : ℤ). b && not (large x)) true xs
 
 -- none of the first n is
 abbrev pub Quiet : ℕ → List ℤ → Type 0
