@@ -1,38 +1,42 @@
 -- The three calls, case by case. Assumes nothing.
-use mathlib.Core.Path.{_≡_}
+use mathlib.Core.Path.{_≡_, refl}
+use mathlib.Core.Bool.{Bool, true, false, _&&_}
 use mathlib.Core.List.{List}
 use Prim.Native.Nat.{ℕ}
 use lib.ListN.{length}
-use borrow.Author.Tests.{eq-eqb, ne-eqb}
+use lib.Dec.{eqb}
+use borrow.Author.Tests.{eq-eqb, ne-eqb, eqb-true}
 use Rattle.state.specs.declared.State.{State}
 use Rattle.outcome.specs.declared.Outcome.{Outcome}
 use Rattle.record.specs.declared.Answer.{Answer}
 use Rattle.record.specs.Record.{readCall, written, writeCall}
 use Rattle.mr74.specs.declared.FrameAnswer.{FrameAnswer}
 use Rattle.mr74.specs.Frame.{frameCall}
-use Rattle.capi.specs.Capi.{stateLength, rowsLength, flagsLength, unfit, codeOf, stateIn, stateBytes, sheetIn, roomIn, outAfter, rowBytes, flagBytes, frameLeft, frameBytes, readLeft, readBytes, writeLeft, writeBytes}
+use Rattle.capi.specs.Capi.{stateLength, rowsLength, flagsLength, fits, unfit, codeOf, stateIn, stateBytes, sheetIn, roomIn, outAfter, rowBytes, flagBytes, frameLeft, frameBytes, readLeft, readBytes, writeLeft, writeBytes}
+
+both : (s t : Bool) → s && t ≡ true → (s ≡ true) × (t ≡ true)
+both true t e = (refl, e)
+both false t e = (e, cc)
+
+pub lengths : (state rows flags : ℕ) → fits state rows flags ≡ true → (state ≡ stateLength) × ((rows ≡ rowsLength) × (flags ≡ flagsLength))
+lengths state rows flags h =
+    let p = both (eqb state stateLength) _ h in
+    let q = both (eqb rows rowsLength) _ (p .1) in
+    (eqb-true state stateLength (p .0), (eqb-true rows rowsLength (q .0), eqb-true flags flagsLength (q .1)))
 
 module _ (sheet state out rows flags : List ℕ) where
-  pub frame-state : (length state ≡ stateLength → ⊥) → frameLeft unfit state out rows flags ≡ frameBytes sheet state out rows flags
+  pub frame-unfit : fits (length state) (length rows) (length flags) ≡ false → frameLeft unfit state out rows flags ≡ frameBytes sheet state out rows flags
   unfolding frameBytes
-  frame-state h = rw (ne-eqb _ _ h)
+  frame-unfit h = rw h
 
-  pub frame-rows : length state ≡ stateLength → (length rows ≡ rowsLength → ⊥) → frameLeft unfit state out rows flags ≡ frameBytes sheet state out rows flags
-  unfolding frameBytes
-  frame-rows h k = rw (eq-eqb _ _ h, ne-eqb _ _ k)
-
-  pub frame-flags : length state ≡ stateLength → length rows ≡ rowsLength → (length flags ≡ flagsLength → ⊥) → frameLeft unfit state out rows flags ≡ frameBytes sheet state out rows flags
-  unfolding frameBytes
-  frame-flags h k l = rw (eq-eqb _ _ h, eq-eqb _ _ k, ne-eqb _ _ l)
-
-  pub frame-given : length state ≡ stateLength → length rows ≡ rowsLength → length flags ≡ flagsLength
+  pub frame-given : fits (length state) (length rows) (length flags) ≡ true
       → {s : State} {a : FrameAnswer} {code : ℕ} {out′ state′ rows′ flags′ : List ℕ}
       → s ≡ stateIn state
       → (a ≡ frameCall (sheetIn sheet) s (roomIn out) .answer) × (out′ ≡ outAfter (frameCall (sheetIn sheet) s (roomIn out)) out)
       → code ≡ codeOf (a .outcome) → state′ ≡ stateBytes (a .next) → rows′ ≡ rowBytes (a .rows) → flags′ ≡ flagBytes (a .flags)
       → frameLeft code state′ out′ rows′ flags′ ≡ frameBytes sheet state out rows flags
   unfolding frameBytes
-  frame-given h k l es (ea, eo) ec et er ef = rw (eq-eqb _ _ h, eq-eqb _ _ k, eq-eqb _ _ l, ec, et, er, ef, eo, ea, es)
+  frame-given h es (ea, eo) ec et er ef = rw (h, ec, et, er, ef, eo, ea, es)
 
 module _ (bytes state : List ℕ) (note : ℕ) where
   pub read-unfit : (length state ≡ stateLength → ⊥) → readLeft unfit state note ≡ readBytes bytes state note

@@ -1,10 +1,9 @@
 -- A frame call that is not accepted leaves state and output. Assumes nothing.
 use mathlib.Core.Path.{_≡_, refl, ap, _∙_}
-use mathlib.Core.Bool.{Bool, true, false, _&&_}
+use mathlib.Core.Bool.{Bool, true, false}
 use mathlib.Core.List.{List}
 use Prim.Native.Nat.{ℕ}
 use native.Mathlib.Omega.{arith}
-use lib.Dec.{eqb}
 use lib.ListN.{length}
 use borrow.Author.Tests.{eqb-true}
 use Rattle.outcome.specs.declared.Outcome.{Outcome}
@@ -17,8 +16,9 @@ use Rattle.coding.proofs.Bytes.{bytes-back}
 use Rattle.coding.proofs.Laid.{bytes-length}
 use Rattle.mr74.specs.Checks.{frameOutcome}
 use Rattle.mr74.specs.Frame.{refusedTrace, frameTrace, given, Called, frameCall}
-use Rattle.capi.specs.Capi.{stateLength, rowsLength, flagsLength, codeOf, stateIn, stateBytes, sheetIn, roomIn, outAfter, rowBytes, flagBytes, FrameLeft, frameLeft, frameBytes, Kept}
+use Rattle.capi.specs.Capi.{stateLength, fits, codeOf, stateIn, stateBytes, sheetIn, roomIn, outAfter, rowBytes, flagBytes, FrameLeft, frameLeft, frameBytes, Kept}
 use Rattle.capi.proofs.Codes.{frame-outcome}
+use Rattle.capi.proofs.Calls.{lengths}
 
 -- what is accepted has the code 0
 accepted-code : (o : Outcome) → isAccepted o ≡ true → codeOf o ≡ 0
@@ -31,10 +31,6 @@ same-bytes state l b =
     let e = ap length back in
     let k : length (words state) ≡ stateCount = omega (arith, e, bytes-length (words state), l) in
     ap bytesOf (numbers-of-state (words state) k) ∙ back
-
-both : (s t : Bool) → s && t ≡ true → s ≡ true
-both true t e = refl
-both false t e = e
 
 module _ (sheet state out rows flags : List ℕ) (bytes : Bytes state) where
   abbrev Same : FrameLeft → Type 0
@@ -54,10 +50,10 @@ module _ (sheet state out rows flags : List ℕ) (bytes : Bytes state) where
   called-so l true e = λ n. absurd (n (ap codeOf (frame-outcome (sheetIn sheet) (stateIn state) (roomIn out)) ∙ accepted-code o e))
   called-so l false e = rw (refused e, e) (λ n. (same-bytes state l bytes, refl))
 
-  fits : (b : Bool) → eqb (length state) stateLength && (eqb (length rows) rowsLength && eqb (length flags) flagsLength) ≡ b → Same (frameBytes sheet state out rows flags)
+  left-so : (b : Bool) → fits (length state) (length rows) (length flags) ≡ b → Same (frameBytes sheet state out rows flags)
   unfolding frameBytes
-  fits true e = rw e (called-so (eqb-true (length state) stateLength (both (eqb (length state) stateLength) _ e)) (isAccepted o) refl)
-  fits false e = rw e (λ n. (refl, refl))
+  left-so true e = rw e (called-so (lengths (length state) (length rows) (length flags) e .0) (isAccepted o) refl)
+  left-so false e = rw e (λ n. (refl, refl))
 
 pub kept : Kept
-kept sheet state out rows flags bytes = fits sheet state out rows flags bytes _ refl
+kept sheet state out rows flags bytes = left-so sheet state out rows flags bytes _ refl

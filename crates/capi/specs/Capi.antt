@@ -43,6 +43,10 @@ rowsLength = 2 * (4 * 11)
 abbrev pub flagsLength : ℕ
 flagsLength = 4
 
+-- a lent state, rows and flags have their lengths
+abbrev pub fits : ℕ → ℕ → ℕ → Bool
+fits state rows flags = eqb state stateLength && (eqb rows rowsLength && eqb flags flagsLength)
+
 -- ---- numbers and states
 -- returned where a lent state, rows or flags has another length than its own: no number of the paper's. Nothing lent is changed then
 abbrev pub unfit : ℕ
@@ -97,7 +101,7 @@ unfoldable pub frameBytes : List ℕ → List ℕ → List ℕ → List ℕ → 
 frameBytes sheet state out rows flags =
     let c = frameCall (sheetIn sheet) (stateIn state) (roomIn out) in
     let a = c .answer in
-    cond (eqb (length state) stateLength && (eqb (length rows) rowsLength && eqb (length flags) flagsLength))
+    cond (fits (length state) (length rows) (length flags))
     (frameLeft (codeOf (a .outcome)) (stateBytes (a .next)) (outAfter c out) (rowBytes (a .rows)) (flagBytes (a .flags)))
     (frameLeft unfit state out rows flags)
 

@@ -5,7 +5,7 @@ ghost use lib.ListN.{length, take};
 ghost use Rattle.outcome.specs.Outcome.{placeOf};
 ghost use Rattle.mr74.specs.Frame.{called, frameCall};
 ghost use Rattle.coding.specs.Bytes.{bytesOf};
-ghost use Rattle.capi.specs.Capi.{sheetCount, stateLength, rowsLength, flagsLength, codeOf, sheetIn, roomOf, roomIn, outAfter, rowBytes, flagBytes, stateBytes, frameLeft, frameBytes, readLeft, readBytes, writeLeft, writeBytes};
+ghost use Rattle.capi.specs.Capi.{fits, sheetCount, stateLength, rowsLength, flagsLength, codeOf, sheetIn, roomOf, roomIn, outAfter, rowBytes, flagBytes, stateBytes, frameLeft, frameBytes, readLeft, readBytes, writeLeft, writeBytes};
 use lpc::Rows;
 use mr74::FrameAnswer;
 use outcome::Outcome;
@@ -34,6 +34,13 @@ const FLAGS_BYTES: usize = 4;
 
 // What is returned where a lent state, rows or flags has another length.
 const UNFIT: u32 = 255;
+
+// Whether a lent state, rows and flags have their lengths.
+fn fit(state: usize, rows: usize, flags: usize) -> bool
+    ensures { λ r. ⌜ r ≡ fits state rows flags ⌝ }
+{
+    (state == STATE_BYTES) & ((rows == ROWS_BYTES) & (flags == FLAGS_BYTES))
+}
 
 // Number and place in one.
 fn code(outcome: Outcome) -> u32
@@ -151,18 +158,12 @@ pub extern "C" fn mr74_frame(
 ) -> u32
     ensures { λ r. ⌜ frameLeft r (now (state .exit)) (now (out .exit)) (now (rows .exit)) (now (flags .exit)) ≡ frameBytes (now (sheet .entry)) (now (state .entry)) (now (out .entry)) (now (rows .entry)) (now (flags .entry)) ⌝ }
 {
-    if state.len() != STATE_BYTES {
-        return UNFIT;
+    if fit(state.len(), rows.len(), flags.len()) {
+        let before = coding::state_in(state);
+        let answer = frame_out(sheet, before, out);
+        return give(answer, state, rows, flags);
     }
-    if rows.len() != ROWS_BYTES {
-        return UNFIT;
-    }
-    if flags.len() != FLAGS_BYTES {
-        return UNFIT;
-    }
-    let before = coding::state_in(state);
-    let answer = frame_out(sheet, before, out);
-    give(answer, state, rows, flags)
+    UNFIT
 }
 
 // ---- the reader

@@ -17,19 +17,12 @@ doubled ns = map (λ (n : ℕ). 2 * n) ns
 twice : (n : ℕ) → 2 * suc n ≡ suc (suc (2 * n))
 twice n = omega arith
 
-words-drop : (m : ℕ) (b : List ℕ) → words (drop (2 * m) b) ≡ drop m (words b)
+words-split : (n : ℕ) (b : List ℕ) → (words (take (2 * n) b) ≡ take n (words b)) × (words (drop (2 * n) b) ≡ drop n (words b))
 unfolding words
-words-drop zero b = refl
-words-drop (suc m) [] = ap (λ (k : ℕ). words (drop k [])) (twice m)
-words-drop (suc m) (x ∷ []) = ap (λ (k : ℕ). words (drop k (x ∷ []))) (twice m)
-words-drop (suc m) (x ∷ y ∷ b) = ap (λ (k : ℕ). words (drop k (x ∷ y ∷ b))) (twice m) ∙ words-drop m b
-
-words-take : (n : ℕ) (b : List ℕ) → words (take (2 * n) b) ≡ take n (words b)
-unfolding words
-words-take zero b = refl
-words-take (suc n) [] = ap (λ (k : ℕ). words (take k [])) (twice n)
-words-take (suc n) (x ∷ []) = ap (λ (k : ℕ). words (take k (x ∷ []))) (twice n)
-words-take (suc n) (x ∷ y ∷ b) = ap (λ (k : ℕ). words (take k (x ∷ y ∷ b))) (twice n) ∙ ap (λ (l : List ℤ). signed16 (unsigned x y) ∷ l) (words-take n b)
+words-split zero b = (refl, refl)
+words-split (suc n) [] = rw (twice n) (refl, refl)
+words-split (suc n) (x ∷ []) = rw (twice n) (refl, refl)
+words-split (suc n) (x ∷ y ∷ b) = let h = words-split n b in rw (twice n) (ap (λ (l : List ℤ). signed16 (unsigned x y) ∷ l) (h .0), h .1)
 
 -- the numbers of the parts of bytes are the parts of their numbers
 pub words-cut : (ns : List ℕ) (b : List ℕ) → map words (stretches 0 (doubled ns) b) ≡ cut ns (words b)
@@ -37,7 +30,7 @@ words-cut ns b = ap (map words) (stretches-cut 0 (doubled ns) b) ∙ go ns b
   where
     go : (ns : List ℕ) (b : List ℕ) → map words (cut (doubled ns) b) ≡ cut ns (words b)
     go [] b = refl
-    go (n ∷ ns) b = rw (words-take n b, ← words-drop n b, go ns (drop (2 * n) b))
+    go (n ∷ ns) b = let h = words-split n b in rw (h .0, ← h .1, go ns (drop (2 * n) b))
 
 pub at-words : (b : List ℕ) (k : ℕ) → 2 * k + 1 < length b → signed16 (unsigned (getD b (2 * k) 0) (getD b (2 * k + 1) 0)) ≡ at (words b) k
 unfolding words

@@ -1,63 +1,59 @@
+-- `capi::mr74_frame`: what does not fit is left; else each part is read, called and written as its function says.
 use borrow.Author.Needs.{needs}
+use mathlib.Core.Path.{_≡_, sym, _∙_}
+use mathlib.Core.Bool.{true}
 use denote.Ref.{now}
-use Rattle.capi.specs.Capi.{sheetIn, roomIn}
+use lib.ListN.{length}
+use Rattle.capi.specs.Capi.{stateLength, rowsLength, flagsLength, fits, sheetIn, roomIn}
 use Rattle.capi.proofs.Codes.{frame-place}
-use Rattle.capi.proofs.Calls.{frame-state, frame-rows, frame-flags, frame-given}
+use Rattle.capi.proofs.Calls.{lengths, frame-unfit, frame-given}
 use Rattle.capi.proofs.mr74_frame.Statement.{statement}
 use Rattle.capi.proofs.mr74_frame.Tie as tie
 
+fitted : (c : tie.Then1) → let a = c .before .before .before .before .before .before .before .args in
+    fits (length (now (a .state))) (length (now (a .rows))) (length (now (a .flags))) ≡ true
+fitted c = sym (c .before .fit .ensures) ∙ c .if1 .taken
+
+lent : (c : tie.Then1) → let a = c .before .before .before .before .before .before .before .args in
+    (length (now (a .state)) ≡ stateLength) × ((length (now (a .rows)) ≡ rowsLength) × (length (now (a .flags)) ≡ flagsLength))
+lent c =
+    let a = c .before .before .before .before .before .before .before .args in
+    lengths (length (now (a .state))) (length (now (a .rows))) (length (now (a .flags))) (fitted c)
+
+given : tie.Need-give-requires
+given c κs =
+    let o = c .before .before .before .before .before in
+    let s = o .before .before in
+    let e = s .before .before in
+    let a = e .before .before .before .before .before .before .before .args in
+    (lent e, rw (o .frame-out .ensures .0) (frame-place (sheetIn (now (a .sheet))) (s .state-in .result) (roomIn (now (a .out)))))
+
 returns : tie.Need-returns
 returns c =
-    let a = c .before .before .before .before .before .before .args in
-    frame-state (now (a .sheet)) (now (a .state)) (now (a .out)) (now (a .rows)) (now (a .flags)) (c .if1 .taken)
-
-returns-2 : tie.Need-returns-2
-returns-2 c =
-    let e = c .before in
-    let a = e .before .before .before .before .before .before .args in
-    frame-rows (now (a .sheet)) (now (a .state)) (now (a .out)) (now (a .rows)) (now (a .flags)) (e .if1 .left) (c .if2 .taken)
-
-returns-3 : tie.Need-returns-3
-returns-3 c =
-    let f = c .before in
-    let e = f .before in
-    let a = e .before .before .before .before .before .before .args in
-    frame-flags (now (a .sheet)) (now (a .state)) (now (a .out)) (now (a .rows)) (now (a .flags)) (e .if1 .left) (f .if2 .left) (c .if3 .taken)
-
-returns-4 : tie.Need-returns-4
-returns-4 c =
     let g = c .before .before .before .before .before .before in
     let o = g .before .before .before .before .before .before in
     let s = o .before .before in
-    let h = s .before .before in
-    let f = h .before in
-    let e = f .before in
-    let a = e .before .before .before .before .before .before .args in
-    frame-given (now (a .sheet)) (now (a .state)) (now (a .out)) (now (a .rows)) (now (a .flags)) (e .if1 .left) (f .if2 .left) (h .if3 .left)
+    let e = s .before .before in
+    let a = e .before .before .before .before .before .before .before .args in
+    frame-given (now (a .sheet)) (now (a .state)) (now (a .out)) (now (a .rows)) (now (a .flags)) (fitted e)
     (s .state-in .ensures) (o .frame-out .ensures) (g .give .ensures .0) (g .give .ensures .1 .0) (g .give .ensures .1 .1 .0) (g .give .ensures .1 .1 .1)
 
-placed : tie.Need-give-requires
-placed c κs =
-    let o = c .before .before .before .before .before in
-    let s = o .before .before in
-    let h = s .before .before in
-    let f = h .before in
-    let e = f .before in
-    let a = e .before .before .before .before .before .before .args in
-    ((e .if1 .left, (f .if2 .left, h .if3 .left)), rw (o .frame-out .ensures .0) (frame-place (sheetIn (now (a .sheet))) (s .state-in .result) (roomIn (now (a .out)))))
+returns-2 : tie.Need-returns-2
+returns-2 c =
+    let a = c .before .before .before .before .before .before .before .args in
+    frame-unfit (now (a .sheet)) (now (a .state)) (now (a .out)) (now (a .rows)) (now (a .flags)) (sym (c .before .fit .ensures) ∙ c .if1 .left)
 
 pub mr74-frame-spec : {M : Type 1} → statement M
 mr74-frame-spec =
     tie.close
     (tie.spec
+    (λ c κs. search needs)
+    (λ c κs. lent (c .before) .0)
+    (λ c κs. search needs)
+    given
+    (λ c. search needs)
+    (λ c. search needs)
+    (λ c. search needs)
+    (λ c. search needs)
     returns
-    returns-2
-    returns-3
-    (λ c κs. search needs)
-    (λ c κs. search needs)
-    placed
-    (λ c. search needs)
-    (λ c. search needs)
-    (λ c. search needs)
-    (λ c. search needs)
-    returns-4)
+    returns-2)

@@ -11,9 +11,6 @@ use Rattle.coding.proofs.Laid.{laid-parts}
 use Rattle.coding.proofs.write_core.Statement.{statement}
 use Rattle.coding.proofs.write_core.Tie as tie
 
-sharpening-fits : (c : tie.Start) → mag (c .args .core .sharpening .0) < 2 ^ 15
-sharpening-fits c = search needs
-
 returns : tie.Need-returns
 unfolding coreNumbers
 returns c =
@@ -22,7 +19,8 @@ returns c =
     let p = n .before .before .before .before .before .before in
     let l = p .before .before .before .before .before in
     let s = l .before .before .before .before in
-    let e = one-put (s .args .core .sharpening .0) (sharpening-fits s) (n .write-one .ensures) in
+    let f : mag (s .args .core .sharpening .0) < 2 ^ 15 = search needs in
+    let e = one-put (s .args .core .sharpening .0) f (n .write-one .ensures) in
     laid-parts (doubled (counts coreParts)) (partsIn coreParts (s .args .core)) (l .write-ten .last .1 .0 ∷ p .write-past .last .1 .0 ∷ n .write-one .last .1 .0 ∷ h .write-ten2 .last .1 .0 ∷ []) (now (s .args .out)) (s .pre) (search needs)
     (λ i. l .write-ten .ensures i ∷ p .write-past .ensures i ∷ e i ∷ h .write-ten2 .ensures i ∷ [])
 
