@@ -55,7 +55,7 @@ frame-spec =
     (λ c κs. search needs)
     inputs-requires
     decode-requires
-    (λ c. search needs)
+    (λ c. sym (made (c .before .before .before)))
     copy-requires
     (λ c. search needs)
     returns
