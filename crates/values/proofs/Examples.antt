@@ -47,7 +47,7 @@ zeros n = record { count = length-replicate n (pos 0); fit = fit n }
     fit (suc n) (suc i) = fit n i
 
 silent-well-formed : WellFormed silent
-unfolding silent stateOf coreOf postOf coreOf postOf
+unfolding silent stateOf coreOf postOf
 silent-well-formed =
     record {
       lsp = zeros 10;
