@@ -180,7 +180,7 @@ const RESIDUAL_END: usize = SYNTHESIS_END + 2;
 pub const POST_BYTES: usize = 2 * POST_NUMBERS;
 
 // The postfilter's memory of its bytes.
-fn post_in(bytes: &[u8]) -> Postfilter
+pub fn post_in(bytes: &[u8]) -> Postfilter
     requires { ⌜ length (now bytes) ≡ postLength ⌝ }
     ensures { λ r. ⌜ r ≡ postOf (words (now (bytes .entry))) ⌝ }
 {
@@ -199,7 +199,7 @@ fn post_in(bytes: &[u8]) -> Postfilter
 }
 
 // The bytes of the postfilter's memory.
-fn write_post(post: Postfilter, out: &mut [u8])
+pub fn write_post(post: Postfilter, out: &mut [u8])
     requires { ⌜ length (now out) ≡ postLength ⌝ }
     ensures { λ _. ⌜ now (out .exit) ≡ bytesOf (postNumbers post) ⌝ }
 {

@@ -1,23 +1,22 @@
 use Prim.Native.Nat.{_≤_, _-_}
+use lib.ListN.{length}
 use borrow.Author.Needs.{needs}
-use Rattle.replay.proofs.forty.Statement.{statement}
-use Rattle.replay.proofs.forty.Tie as tie
+use Rattle.replay.proofs.compare.all_are.Statement.{statement}
+use Rattle.replay.proofs.compare.all_are.Tie as tie
 
 abbrev Inv-loop : tie.InvT-loop
-Inv-loop b from r₀ i₀ r i = i ≤ 40
+Inv-loop xs v i₀ i = i ≤ length xs
 
 abbrev μ-loop : tie.MeasureT-loop
-μ-loop b from r₀ i₀ r i = 40 - i
+μ-loop xs v i₀ i = length xs - i
 
-pub forty-spec : {M : Type 1} → statement M
-forty-spec =
+pub all-are-spec : {M : Type 1} → statement M
+all-are-spec =
     tie.close
     (tie.spec
     Inv-loop
     μ-loop
     (λ c. search needs)
-    (λ c. search needs)
-    (λ c κs. search needs)
     (λ c. search needs)
     (λ c. search needs)
     (λ c. search needs)

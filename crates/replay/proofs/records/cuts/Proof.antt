@@ -2,8 +2,8 @@ use Prim.Native.Nat.{_≤_, _-_}
 use mathlib.Core.Logic.{⊎-elim}
 use native.Mathlib.Omega.{arith}
 use borrow.Author.Needs.{needs}
-use Rattle.replay.proofs.cuts.Statement.{statement}
-use Rattle.replay.proofs.cuts.Tie as tie
+use Rattle.replay.proofs.records.cuts.Statement.{statement}
+use Rattle.replay.proofs.records.cuts.Tie as tie
 
 abbrev Inv-loop : tie.InvT-loop
 Inv-loop r different₀ n₀ different n = (n ≤ 402) × (different ≤ n)

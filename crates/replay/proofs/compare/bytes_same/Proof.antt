@@ -1,23 +1,23 @@
 use Prim.Native.Nat.{_≤_, _-_}
+use lib.ListN.{length}
 use borrow.Author.Needs.{needs}
-use Rattle.replay.proofs.row_of.Statement.{statement}
-use Rattle.replay.proofs.row_of.Tie as tie
+use Rattle.replay.proofs.compare.bytes_same.Statement.{statement}
+use Rattle.replay.proofs.compare.bytes_same.Tie as tie
 
 abbrev Inv-loop : tie.InvT-loop
-Inv-loop b from r₀ i₀ r i = i ≤ 11
+Inv-loop xs ys i₀ i = i ≤ length xs
 
 abbrev μ-loop : tie.MeasureT-loop
-μ-loop b from r₀ i₀ r i = 11 - i
+μ-loop xs ys i₀ i = length xs - i
 
-pub row-of-spec : {M : Type 1} → statement M
-row-of-spec =
+pub bytes-same-spec : {M : Type 1} → statement M
+bytes-same-spec =
     tie.close
     (tie.spec
     Inv-loop
     μ-loop
     (λ c. search needs)
     (λ c. search needs)
-    (λ c κs. search needs)
     (λ c. search needs)
     (λ c. search needs)
     (λ c. search needs)

@@ -1,0 +1,78 @@
+// Numbers of a record, read from the stretch of bytes that has them.
+ghost use mathlib.Core.Path.{_≡_};
+ghost use lib.ListN.{length};
+use coding::fill;
+use lpc::Rows;
+
+// 16 bits, as they stand
+pub fn bits(b: &[u8]) -> u16
+    requires { ⌜ length (now b) ≡ 2 ⌝ }
+{
+    coding::unsigned(b[0], b[1])
+}
+
+pub fn word(b: &[u8]) -> i16
+    requires { ⌜ length (now b) ≡ 2 ⌝ }
+{
+    coding::word(b[0], b[1])
+}
+
+// 32 bits, the low 16 first: the high ones by 65536, and the low ones; nothing clamps
+pub fn long(b: &[u8]) -> i32
+    requires { ⌜ length (now b) ≡ 4 ⌝ }
+{
+    let low = coding::unsigned(b[0], b[1]) as i32;
+    let high = basicop::l_mult(coding::word(b[2], b[3]), 16384);
+    basicop::l_add(basicop::l_shl(high, 1), low)
+}
+
+pub fn ten(b: &[u8]) -> [i16; 10]
+    requires { ⌜ length (now b) ≡ 20 ⌝ }
+{
+    let mut r = [0i16; 10];
+    fill(&mut r, b);
+    r
+}
+
+pub fn row(b: &[u8]) -> [i16; 11]
+    requires { ⌜ length (now b) ≡ 22 ⌝ }
+{
+    let mut r = [0i16; 11];
+    fill(&mut r, b);
+    r
+}
+
+pub fn forty(b: &[u8]) -> [i16; 40]
+    requires { ⌜ length (now b) ≡ 80 ⌝ }
+{
+    let mut r = [0i16; 40];
+    fill(&mut r, b);
+    r
+}
+
+pub fn past(b: &[u8]) -> [i16; 154]
+    requires { ⌜ length (now b) ≡ 308 ⌝ }
+{
+    let mut r = [0i16; 154];
+    fill(&mut r, b);
+    r
+}
+
+pub fn frame(b: &[u8]) -> [i16; 160]
+    requires { ⌜ length (now b) ≡ 320 ⌝ }
+{
+    let mut r = [0i16; 160];
+    fill(&mut r, b);
+    r
+}
+
+pub fn rows(b: &[u8]) -> Rows
+    requires { ⌜ length (now b) ≡ 88 ⌝ }
+{
+    Rows {
+        a: row(&b[0..22]),
+        b: row(&b[22..44]),
+        c: row(&b[44..66]),
+        d: row(&b[66..88]),
+    }
+}
