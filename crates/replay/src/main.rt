@@ -53,10 +53,9 @@ fn long(b: &[u8], k: usize) -> i32
 fn ten(b: &[u8], from: usize) -> [i16; 10]
     requires { ⌜ (from < 800) × (2 * from + 20 ≤ length (now b)) ⌝ }
 {
+    let first = 2 * from;
     let mut r = [0i16; 10];
-    for i in 0..10 {
-        r[i] = word(b, from + i);
-    }
+    coding::fill(&mut r, &b[first..first + 20]);
     r
 }
 
@@ -156,10 +155,9 @@ fn interpolate(b: &[u8]) -> bool {
 fn past_of(b: &[u8], from: usize) -> [i16; 154]
     requires { ⌜ (from < 800) × (2 * from + 308 ≤ length (now b)) ⌝ }
 {
+    let first = 2 * from;
     let mut r = [0i16; 154];
-    for i in 0..154 {
-        r[i] = word(b, from + i);
-    }
+    coding::fill(&mut r, &b[first..first + 308]);
     r
 }
 
@@ -192,10 +190,9 @@ fn predict(b: &[u8]) -> bool {
 fn forty(b: &[u8], from: usize) -> [i16; 40]
     requires { ⌜ (from < 800) × (2 * from + 80 ≤ length (now b)) ⌝ }
 {
+    let first = 2 * from;
     let mut r = [0i16; 40];
-    for i in 0..40 {
-        r[i] = word(b, from + i);
-    }
+    coding::fill(&mut r, &b[first..first + 80]);
     r
 }
 
@@ -242,10 +239,9 @@ fn gain_control(b: &[u8]) -> bool {
 fn row_of(b: &[u8], from: usize) -> [i16; 11]
     requires { ⌜ (from < 800) × (2 * from + 22 ≤ length (now b)) ⌝ }
 {
+    let first = 2 * from;
     let mut r = [0i16; 11];
-    for i in 0..11 {
-        r[i] = word(b, from + i);
-    }
+    coding::fill(&mut r, &b[first..first + 22]);
     r
 }
 
@@ -281,10 +277,9 @@ fn both_passes(b: &[u8]) -> bool {
 fn frame_of(b: &[u8], from: usize) -> [i16; 160]
     requires { ⌜ (from < 800) × (2 * from + 320 ≤ length (now b)) ⌝ }
 {
+    let first = 2 * from;
     let mut r = [0i16; 160];
-    for i in 0..160 {
-        r[i] = word(b, from + i);
-    }
+    coding::fill(&mut r, &b[first..first + 320]);
     r
 }
 
