@@ -1,5 +1,6 @@
 -- `mr74::frame` meets its contract: an accepted call is decoded and copied, another refused.
 use mathlib.Core.Path.{_≡_, ap, sym, _∙_}
+use native.Mathlib.Omega.{arith}
 use borrow.Author.Needs.{needs}
 use denote.Ref.{now}
 use lib.ListN.{length}
@@ -23,7 +24,7 @@ made : (c : tie.After-decode) → length (c .decode .result .samples) ≡ 160
 made c = search needs
 
 copy-requires : tie.Need-copy-requires
-copy-requires c κs = shown (c .before .before .before .before) .lent ∙ sym (made (c .before .before .before))
+copy-requires c κs = omega (arith, shown (c .before .before .before .before) .lent, made (c .before .before .before))
 
 returns : tie.Need-returns
 returns c =
