@@ -114,15 +114,27 @@ fn tap(table: &[i16; 61], phase: usize, j: usize) -> i16
     table[6 - phase + 6 * (j - 10)]
 }
 
+// The twenty taps of a phase.
+fn row(table: &[i16; 61], phase: usize) -> [i16; 20]
+    requires { ⌜ (now table ≡ inter6) × (phase ≤ 4) ⌝ }
+    ensures { λ r. ⌜ r ≡ row phase ⌝ }
+{
+    let mut r = [0i16; 20];
+    for j in 0..20 {
+        r[j] = tap(table, phase, j);
+    }
+    r
+}
+
 // The taps, with the twenty of a phase put in from place 10 * phase on.
 fn with_row(taps: [i16; 60], table: &[i16; 61], phase: usize) -> [i16; 60]
     requires { ⌜ (now table ≡ inter6) × (phase ≤ 4) ⌝ }
     ensures { λ r. ⌜ take (10 * phase + 20) r ≡ take (10 * phase) taps ++ row phase ⌝ }
 {
+    let from = 10 * phase;
+    let row = row(table, phase);
     let mut out = taps;
-    for j in 0..20 {
-        out[10 * phase + j] = tap(table, phase, j);
-    }
+    copy(&mut out[from..from + 20], &row);
     out
 }
 

@@ -1,5 +1,6 @@
 -- The checks, then the frame or the refusal: answer-accepted, answer-refused. What the checks have shown makes the sheet's inputs usable.
 use mathlib.Core.Path.{_≡_, ap, sym, _∙_, subst}
+use native.Mathlib.Omega.{arith}
 use borrow.Author.Needs.{needs}
 use denote.Ref.{now}
 use lib.ListN.{length}
@@ -29,7 +30,7 @@ made : (c : tie.After-decode) → length (c .decode .result .samples) ≡ 160
 made c = search needs
 
 copy-requires : tie.Need-copy-requires
-copy-requires c κs = shown (c .before .before .before .before .before) .lent ∙ sym (made (c .before .before .before))
+copy-requires c κs = omega (arith, shown (c .before .before .before .before .before) .lent, made (c .before .before .before))
 
 returns : tie.Need-returns
 returns c =
