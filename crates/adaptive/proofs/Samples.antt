@@ -9,15 +9,15 @@ use lib.Seq.{getD-take}
 use Rattle.lists.specs.Lists.{at}
 use Rattle.basicop.specs.Ops.{L-mac}
 use Rattle.basicop.proofs.Naturals.{minus}
-use Rattle.adaptive.specs.Predict.{turn, interpolated}
+use Rattle.adaptive.specs.Predict.{tapPair, interpolated}
 use Rattle.lists.proofs.Count.{iter-same}
 
-pub turn-at : (x : List ℤ) (p i : ℕ) (c d : ℕ → ℤ) (s : ℤ) → i ≤ p → L-mac (L-mac s (at x (p - i)) (c i)) (at x (p + 1 + i)) (d i) ≡ turn x (pos p) c d i s
+pub turn-at : (x : List ℤ) (p i : ℕ) (c d : ℕ → ℤ) (s : ℤ) → i ≤ p → L-mac (L-mac s (at x (p - i)) (c i)) (at x (p + 1 + i)) (d i) ≡ tapPair x (pos p) c d i s
 turn-at x p i c d s h = rw (minus p i h)
 
 -- a sample about place p reads below q alone, and ten coefficients of each side
 module _ (x : List ℤ) (p q : ℕ) (c c′ d d′ : ℕ → ℤ) (lo : 9 ≤ p) (hi : p + 10 < q) (el : (i : ℕ) → i < 10 → c i ≡ c′ i) (er : (i : ℕ) → i < 10 → d i ≡ d′ i) where
-  turn-same : (i : ℕ) → i < 10 → (s : ℤ) → turn x (pos p) c d i s ≡ turn (take q x) (pos p) c′ d′ i s
+  turn-same : (i : ℕ) → i < 10 → (s : ℤ) → tapPair x (pos p) c d i s ≡ tapPair (take q x) (pos p) c′ d′ i s
   turn-same i h s =
       let a : p - i < q = omega arith in
       let b : p + 1 + i < q = omega arith in

@@ -13,7 +13,7 @@ use Rattle.basicop.specs.Ops.{L-mac}
 use Rattle.basicop.specs.Inner.{sizes}
 use Rattle.basicop.proofs.Range.{mul-bound}
 use Rattle.basicop.proofs.Unclamped.{sizes-most, Step, step}
-use Rattle.adaptive.specs.Predict.{turn}
+use Rattle.adaptive.specs.Predict.{tapPair}
 use Rattle.adaptive.specs.Inner.{limit, Quiet}
 use Rattle.adaptive.proofs.Tested.{large-no}
 use Rattle.adaptive.proofs.Samples.{turn-at}
@@ -21,7 +21,7 @@ use Rattle.adaptive.proofs.Samples.{turn-at}
 module _ (x : List ℤ) (p : ℕ) (c d : ℕ → ℤ) (plain : Bool) where
   -- the sum after n turns
   pub record Summed (s : ℤ) (n : ℕ) : Type 0 where
-    pub run : Iter (turn x (pos p) c d) (pos 0) s n
+    pub run : Iter (tapPair x (pos p) c d) (pos 0) s n
     pub size : plain ≡ true → natAbs s ≤ 2 * (limit * (sizes c n + sizes d n))
 
   pub summed-none : {s : ℤ} → s ≡ pos 0 → Summed s 0

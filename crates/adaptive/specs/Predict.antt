@@ -39,13 +39,13 @@ start l = cond (back l) ((pos 154 -ℤ l .samples) -ℤ pos 1) (pos 154 -ℤ l .
 abbrev pub coefficient : ℤ → ℕ → ℤ
 coefficient f i = entry inter6 (f +ℤ pos (6 * i))
 
--- turn i of a sample, with coefficients c to the left and d to the right: x[left - i] by c, then x[left + 1 + i] by d
-abbrev pub turn : List ℤ → ℤ → (ℕ → ℤ) → (ℕ → ℤ) → ℕ → ℤ → ℤ
-turn x left c d i s = L-mac (L-mac s (entry x (left -ℤ pos i)) (c i)) (entry x ((left +ℤ pos 1) +ℤ pos i)) (d i)
+-- tapPair i of a sample, with coefficients c to the left and d to the right: x[left - i] by c, then x[left + 1 + i] by d
+abbrev pub tapPair : List ℤ → ℤ → (ℕ → ℤ) → (ℕ → ℤ) → ℕ → ℤ → ℤ
+tapPair x left c d i s = L-mac (L-mac s (entry x (left -ℤ pos i)) (c i)) (entry x ((left +ℤ pos 1) +ℤ pos i)) (d i)
 
 -- ten turns, rounded
 unfoldable pub interpolated : List ℤ → ℤ → (ℕ → ℤ) → (ℕ → ℤ) → ℤ
-interpolated x left c d = round (iter (turn x left c d) 10 (pos 0))
+interpolated x left c d = round (iter (tapPair x left c d) 10 (pos 0))
 
 -- sample n of a subframe with the start s and the phase f, from the excitations so far
 abbrev pub sampleAt : ℤ → ℤ → ℕ → List ℤ → ℤ

@@ -7,7 +7,7 @@ ghost use lib.IntN.{pos};
 ghost use lib.ListN.{take};
 ghost use Rattle.pitch.specs.Lag.{lagOf};
 ghost use Rattle.adaptive.specs.Predict.{inter6, phase, start, interpolated, extended, predicted};
-ghost use Rattle.adaptive.specs.Inner.{tap, row, rows, leftOf, rightOf, Light, large, quiet, Quiet};
+ghost use Rattle.adaptive.specs.Inner.{tap, phaseTaps, allTaps, leftOf, rightOf, Light, large, quiet, Quiet};
 use copy::copy;
 use pitch::Fraction;
 use pitch::PitchLag;
@@ -115,9 +115,9 @@ fn tap(table: &[i16; 61], phase: usize, j: usize) -> i16
 }
 
 // The twenty taps of a phase.
-fn row(table: &[i16; 61], phase: usize) -> [i16; 20]
+fn phase_taps(table: &[i16; 61], phase: usize) -> [i16; 20]
     requires { ⌜ (now table ≡ inter6) × (phase ≤ 4) ⌝ }
-    ensures { λ r. ⌜ r ≡ row phase ⌝ }
+    ensures { λ r. ⌜ r ≡ phaseTaps phase ⌝ }
 {
     let mut r = [0i16; 20];
     for j in 0..20 {
@@ -127,25 +127,25 @@ fn row(table: &[i16; 61], phase: usize) -> [i16; 20]
 }
 
 // The taps, with the twenty of a phase put in from place 10 * phase on.
-fn with_row(taps: [i16; 60], table: &[i16; 61], phase: usize) -> [i16; 60]
+fn with_phase(taps: [i16; 60], table: &[i16; 61], phase: usize) -> [i16; 60]
     requires { ⌜ (now table ≡ inter6) × (phase ≤ 4) ⌝ }
-    ensures { λ r. ⌜ take (10 * phase + 20) r ≡ take (10 * phase) taps ++ row phase ⌝ }
+    ensures { λ r. ⌜ take (10 * phase + 20) r ≡ take (10 * phase) taps ++ phaseTaps phase ⌝ }
 {
     let from = 10 * phase;
-    let row = row(table, phase);
+    let row = phase_taps(table, phase);
     let mut out = taps;
     copy(&mut out[from..from + 20], &row);
     out
 }
 
 // The taps of the three phases: constants, which the compiler works out.
-fn rows() -> [i16; 60]
-    ensures { λ r. ⌜ r ≡ rows ⌝ }
+fn all_taps() -> [i16; 60]
+    ensures { λ r. ⌜ r ≡ allTaps ⌝ }
 {
     let table = COEFFICIENTS;
-    let zero = with_row([0; 60], &table, 0);
-    let two = with_row(zero, &table, 2);
-    with_row(two, &table, 4)
+    let zero = with_phase([0; 60], &table, 0);
+    let two = with_phase(zero, &table, 2);
+    with_phase(two, &table, 4)
 }
 
 // Outside -16384..=16383.
@@ -169,9 +169,9 @@ fn quiet(history: [i16; 154]) -> bool
 // One sample: the ten of `x` at `first` and before it by the left taps of the row, the ten after it by the right ones.
 // Where none of them is large no step can clamp (`plain`).
 fn sample(x: &[i16; 194], first: usize, taps: &[i16; 60], row: usize, plain: bool) -> i16
-    requires places { ⌜ (9 ≤ first) × ((first + 10 < 194) × (row + 20 ≤ 60)) ⌝ }
-    requires quiet { ⌜ Light (now taps) row × (plain ≡ true → Quiet (first + 11) (now x)) ⌝ }
-    ensures { λ r. ⌜ r ≡ interpolated (now (x .entry)) (pos first) (leftOf (now (taps .entry)) row) (rightOf (now (taps .entry)) row) ⌝ }
+    requires places { ⌜ (9 ≤ first) × ((first + 10 < 194) × (phaseTaps + 20 ≤ 60)) ⌝ }
+    requires quiet { ⌜ Light (now taps) phaseTaps × (plain ≡ true → Quiet (first + 11) (now x)) ⌝ }
+    ensures { λ r. ⌜ r ≡ interpolated (now (x .entry)) (pos first) (leftOf (now (taps .entry)) phaseTaps) (rightOf (now (taps .entry)) phaseTaps) ⌝ }
 {
     let mut sum = 0;
     for i in 0..10 {
@@ -195,7 +195,7 @@ fn extended(history: [i16; 154], lag: PitchLag) -> [i16; 194]
     requires { ⌜ (19 ≤ lag .samples) × (lag .samples ≤ 144) ⌝ }
     ensures { λ r. ⌜ r ≡ extended history (lagOf lag) ⌝ }
 {
-    let taps = rows();
+    let taps = all_taps();
     let phase = phase_of(lag);
     let start = start_of(lag);
     let mut buffer = opened(history);

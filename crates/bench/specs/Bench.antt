@@ -7,15 +7,15 @@ use lib.ListN.{replicate}
 use Rattle.state.specs.declared.State.{State}
 use Rattle.outcome.specs.Outcome.{numberOf, placeOf, isAccepted}
 use Rattle.coding.specs.Bytes.{words}
-use Rattle.mr74.specs.Frame.{Called, frameCall}
+use Rattle.mr74.specs.Frame.{CallResult, frameCall}
 use Rattle.lines.specs.Lines.{peakOf, frameLine, refusedLine}
 
 -- the frame call of a sheet's 364 bytes, with 160 zeros lent
-unfoldable pub sheetCall : List ℕ → State → Called
+unfoldable pub sheetCall : List ℕ → State → CallResult
 sheetCall bytes s = frameCall (words bytes) s (replicate 160 (pos 0))
 
 -- the line of a call, for the sheet of number n
-unfoldable pub answerLine : ℕ → Called → List ℕ
+unfoldable pub answerLine : ℕ → CallResult → List ℕ
 answerLine n k =
     let a = k .answer in
     cond (isAccepted (a .outcome)) (frameLine n (a .flags) (peakOf (k .lent))) (refusedLine n (numberOf (a .outcome)) (placeOf (a .outcome)))

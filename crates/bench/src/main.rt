@@ -1,7 +1,7 @@
 // Reads a handover record and then frame sheets from standard input, and writes a line for each sheet.
 ghost use mathlib.Core.Path.{_≡_};
 ghost use lib.ListN.{length, take};
-ghost use Rattle.mr74.specs.Frame.{called};
+ghost use Rattle.mr74.specs.Frame.{callResult};
 ghost use Rattle.lines.specs.Put.{lineRoom, Within};
 ghost use Rattle.bench.specs.Bench.{sheetCall, answerLine};
 use libc::STDIN_FILENO;
@@ -13,7 +13,7 @@ use state::State;
 // The line of a sheet's answer.
 fn answer_line(out: &mut [u8], number: u64, answer: FrameAnswer, samples: [i16; 160]) -> usize
     requires { ⌜ length (now out) ≡ lineRoom ⌝ }
-    ensures line { λ r. ⌜ take r (now (out .exit)) ≡ answerLine number (called answer samples) ⌝ }
+    ensures line { λ r. ⌜ take r (now (out .exit)) ≡ answerLine number (callResult answer samples) ⌝ }
     ensures within { λ r. ⌜ Within r (now (out .exit)) ⌝ }
 {
     let outcome = answer.outcome;

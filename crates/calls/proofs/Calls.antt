@@ -12,14 +12,14 @@ use Rattle.outcome.specs.declared.Outcome.{Outcome}
 use Rattle.outcome.specs.declared.Outcome.the-variants.{Accepted}
 use Rattle.outcome.specs.Outcome.{isAccepted}
 use Rattle.state.specs.State.{WellFormed, stateOutcome}
-use Rattle.state.proofs.Checks.{Kept, kept-accepted}
+use Rattle.state.proofs.Checks.{InRange, in-range-accepted}
 use Rattle.mr74.specs.Sheet.{sheetInputs}
 use Rattle.mr74.specs.Checks.{frameOutcome}
 use Rattle.mr74.specs.Frame.{Trace, acceptedTrace, refusedTrace, traceBy, frameTrace}
 use Rattle.mr74.proofs.Passed.{passed}
 use Rattle.mr74.proofs.Usable.{usable}
-use Rattle.calls.specs.Calls.{Call, Frame, traceOf, nextState, accepted}
-use Rattle.calls.proofs.Frames.{Left, FrameResult, frame-result}
+use Rattle.calls.specs.Calls.{Call, FrameCall, traceOf, nextState, accepted}
+use Rattle.calls.proofs.Frames.{NextFacts, FrameFacts, frame-facts}
 
 -- by cases
 pub decided : {P : Type 0} (b : Bool) → (b ≡ true → P) → (b ≡ false → P) → P
@@ -43,12 +43,12 @@ pub record Accepts (s : State) (c : Call) : Type 0 where
   pub outcome : Outcome
   pub inputs : FrameInputs
   pub usable : Usable inputs
-  pub state : Kept s
+  pub state : InRange s
   pub trace : traceOf s c ≡ acceptedTrace outcome inputs s
 
 pub accepts : (s : State) (c : Call) → accepted (traceOf s c) ≡ true → Accepts s c
 unfolding frameTrace
-accepts s (Frame sheet out) e =
+accepts s (FrameCall sheet out) e =
     let o = frameOutcome sheet s (length out) in
     let a = sym (told o (sheetInputs sheet) s out) ∙ e in
     let p = passed sheet s (length out) a in
@@ -62,7 +62,7 @@ pub record Refuses (s : State) (c : Call) : Type 0 where
 
 pub refuses : (s : State) (c : Call) → accepted (traceOf s c) ≡ false → Refuses s c
 unfolding frameTrace
-refuses s (Frame sheet out) e =
+refuses s (FrameCall sheet out) e =
     let o = frameOutcome sheet s (length out) in
     record { outcome = o; out = out; trace = by-refused o (sheetInputs sheet) s out (sym (told o (sheetInputs sheet) s out) ∙ e) }
 
@@ -75,15 +75,15 @@ abbrev pub SmallPast : State → Type 0
 SmallPast s = (length (s .core .past) ≡ 154) × Every Small (s .core .past)
 
 module _ (s : State) (c : Call) (w : WellFormed s) (e : accepted (traceOf s c) ≡ true) where
-  result : FrameResult (accepts s c e .inputs) s
-  result = let a = accepts s c e in frame-result (a .inputs) s (a .usable) w (a .state)
+  result : FrameFacts (accepts s c e .inputs) s
+  result = let a = accepts s c e in frame-facts (a .inputs) s (a .usable) w (a .state)
 
-  pub next-left : Left (nextState s c)
-  next-left = subst (λ (t : Trace). Left (t .next)) (sym (accepts s c e .trace)) (result .left)
+  pub next-left : NextFacts (nextState s c)
+  next-left = subst (λ (t : Trace). NextFacts (t .next)) (sym (accepts s c e .trace)) (result .left)
 
   -- the state's checks accept it
   pub next-accepted : stateOutcome (nextState s c) ≡ Accepted
-  next-accepted = kept-accepted (nextState s c) (next-left .passes)
+  next-accepted = in-range-accepted (nextState s c) (next-left .passes)
 
   -- after a retried last subframe
   pub next-small : getD (traceOf s c .flags) 3 false ≡ true → SmallPast (nextState s c)

@@ -15,44 +15,44 @@ use Rattle.basicop.proofs.Words.{words-map}
 use Rattle.spectral.specs.Lsp.{lspOf, lspsOf}
 use Rattle.spectral.proofs.Lsp.{lsp-fits}
 use Rattle.decoder.specs.Inputs.{FrameInputs, Usable}
-use Rattle.decoder.specs.Core.{samplesOf, quotientsOf, decoded}
-use Rattle.decoder.proofs.Results.{Held, CoreResult, core-result}
+use Rattle.decoder.specs.Core.{samplesOf, quotientsOf, coreResult}
+use Rattle.decoder.proofs.Results.{Held, CoreFacts, core-facts}
 use Rattle.postfilter.specs.Tilted.{Framed}
 use Rattle.postfilter.proofs.Results.{processed-kept, framed-rows, rows-first}
 use Rattle.state.specs.declared.State.{State}
 use Rattle.outcome.specs.declared.Outcome.{Outcome}
 use Rattle.state.specs.State.{WellFormed}
-use Rattle.state.proofs.Checks.{Kept}
-use Rattle.mr74.specs.Frame.{coreOf, postOf, nextOf, acceptedTrace}
+use Rattle.state.proofs.Checks.{InRange}
+use Rattle.mr74.specs.Frame.{coreResultOf, postResultOf, nextStateOf, acceptedTrace}
 
 in-16 : {z n : ℤ} → n ≤ℤ pos 32767 → pos 0 ≤ℤ z → z ≤ℤ n → SFits w16 z
 in-16 {z} l f t = sfits-from w16 z (≤ℤ-trans (leZ-yes tt) f) (≤ℤ-trans t l)
 
 -- the state that a frame leaves; its smoothed gain is at most 32748, where demand 3 asks for 32765
-pub record Left (s : State) : Type 0 where
+pub record NextFacts (s : State) : Type 0 where
   pub well-formed : WellFormed s
-  pub passes : Kept s
+  pub passes : InRange s
   pub gain : s .post .gain .«previous_gain» ≤ℤ pos 32748
 
-pub record FrameResult (inputs : FrameInputs) (s : State) : Type 0 where
-  pub core : CoreResult (lspsOf (inputs .lsfs)) (coreOf inputs s)
-  pub post : Framed 512 4 (postOf inputs s)
-  pub left : Left (nextOf inputs s)
+pub record FrameFacts (inputs : FrameInputs) (s : State) : Type 0 where
+  pub core : CoreFacts (lspsOf (inputs .lsfs)) (coreResultOf inputs s)
+  pub post : Framed 512 4 (postResultOf inputs s)
+  pub left : NextFacts (nextStateOf inputs s)
 
-module _ (inputs : FrameInputs) (s : State) (u : Usable inputs) (w : WellFormed s) (k : Kept s) where
+module _ (inputs : FrameInputs) (s : State) (u : Usable inputs) (w : WellFormed s) (k : InRange s) where
   pub held : Held (s .core)
   held = record { past = w .past; history = w .history }
 
-  pub frame-result : FrameResult inputs s
-  unfolding decoded
-  frame-result =
-      let ys = samplesOf (coreOf inputs s .turns) in
-      let c = core-result (s .core) inputs u held in
-      let p = processed-kept (s .post) (coreOf inputs s .rows) ys (record { inputs = w .input-history; outputs = w .synthesis-history; residual = w .previous-residual; gain = record { from = k .gain; to = sfits-range w16 _ (w .previous-gain) .1 } }) (c .samples) in
+  pub frame-facts : FrameFacts inputs s
+  unfolding coreResult
+  frame-facts =
+      let ys = samplesOf (coreResultOf inputs s .subframes) in
+      let c = core-facts (s .core) inputs u held in
+      let p = processed-kept (s .post) (coreResultOf inputs s .rows) ys (record { inputs = w .input-history; outputs = w .synthesis-history; residual = w .previous-residual; gain = record { from = k .gain; to = sfits-range w16 _ (w .previous-gain) .1 } }) (c .samples) in
       let m = p .memory in
       record {
         core = c;
-        post = framed-rows (s .post) (coreOf inputs s .rows) ys (rows-first (s .core .lsp) (lspsOf (inputs .lsfs)));
+        post = framed-rows (s .post) (coreResultOf inputs s .rows) ys (rows-first (s .core .lsp) (lspsOf (inputs .lsfs)));
         left = record {
           well-formed = record {
             lsp = rw (c .next .lsp) (words-map lspOf lsp-fits (inputs .lsfs) (u .ten));
@@ -72,9 +72,9 @@ module _ (inputs : FrameInputs) (s : State) (u : Usable inputs) (w : WellFormed 
   -- every divisor of the frame: those of the core lie in 16384..=32767, those of the postfilter in 512..=32767
   pub frame-divisors : (o : Outcome) → Every (Divides 512) (acceptedTrace o inputs s .quotients)
   frame-divisors o =
-      every-append (Divides 512) (quotientsOf (coreOf inputs s .turns)) (postOf inputs s .quotients)
-      (every-map wider (quotientsOf (coreOf inputs s .turns)) (frame-result .core .divisors))
-      (frame-result .post .divisors)
+      every-append (Divides 512) (quotientsOf (coreResultOf inputs s .subframes)) (postResultOf inputs s .quotients)
+      (every-map wider (quotientsOf (coreResultOf inputs s .subframes)) (frame-facts .core .divisors))
+      (frame-facts .post .divisors)
     where
       wider : (q : Quotient) → Divides 16384 q → Divides 512 q
       wider q d = record { from = ≤ℤ-trans (le-in (lit≤ tt)) (d .from); to = d .to }

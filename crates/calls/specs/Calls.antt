@@ -9,10 +9,10 @@ use Rattle.mr74.specs.Frame.{Trace, frameTrace}
 
 -- a call brings its own sheet and output
 pub data Call : Type 0 where
-  Frame : (sheet out : List ℤ) → Call
+  FrameCall : (sheet out : List ℤ) → Call
 
 abbrev pub traceOf : State → Call → Trace
-traceOf s (Frame sheet out) = frameTrace sheet s out
+traceOf s (FrameCall sheet out) = frameTrace sheet s out
 
 abbrev pub nextState : State → Call → State
 nextState s c = traceOf s c .next

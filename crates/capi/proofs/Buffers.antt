@@ -16,7 +16,7 @@ use Rattle.state.specs.declared.State.{State}
 use Rattle.outcome.specs.Outcome.{isAccepted}
 use Rattle.coding.specs.Bytes.{words, bytesOf}
 use Rattle.mr74.specs.declared.FrameAnswer.{FrameAnswer}
-use Rattle.mr74.specs.Frame.{called, frameCall}
+use Rattle.mr74.specs.Frame.{callResult, frameCall}
 use Rattle.mr74.proofs.Passed.{passed}
 use Rattle.capi.specs.Capi.{sheetCount, sampleCount, sheetLength, outLength, sheetIn, roomOf, roomIn, outAfter, flagBytes}
 use Rattle.capi.proofs.Codes.{frame-outcome}
@@ -81,11 +81,11 @@ module _ (sheet : List ℤ) (s : State) (out : List ℕ) where
       let v = rw (frame-outcome sheet s (roomIn out)) at h in
       room-all (length out) (sym (length-replicate (roomOf (length out)) (pos 0)) ∙ passed sheet s (length (roomIn out)) v .lent)
 
-  pub frame-accepted : {a : FrameAnswer} {lent samples : List ℤ} {last : List ℕ} → called a lent ≡ frameCall sheet s (roomIn out) → isAccepted (a .outcome) ≡ true → samples ≡ lent → last ≡ bytesOf samples
+  pub frame-accepted : {a : FrameAnswer} {lent samples : List ℤ} {last : List ℕ} → callResult a lent ≡ frameCall sheet s (roomIn out) → isAccepted (a .outcome) ≡ true → samples ≡ lent → last ≡ bytesOf samples
       → (a ≡ frameCall sheet s (roomIn out) .answer) × (last ≡ outAfter (frameCall sheet s (roomIn out)) out)
   frame-accepted e h es el = rw (← e) (refl, rw (h, el, es))
 
-  pub frame-refused : {a : FrameAnswer} {lent : List ℤ} → called a lent ≡ frameCall sheet s (roomIn out) → isAccepted (a .outcome) ≡ false
+  pub frame-refused : {a : FrameAnswer} {lent : List ℤ} → callResult a lent ≡ frameCall sheet s (roomIn out) → isAccepted (a .outcome) ≡ false
       → (a ≡ frameCall sheet s (roomIn out) .answer) × (out ≡ outAfter (frameCall sheet s (roomIn out)) out)
   frame-refused e h = rw (← e) (refl, rw h)
 

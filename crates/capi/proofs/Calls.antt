@@ -9,10 +9,10 @@ use borrow.Author.Tests.{eq-eqb, ne-eqb, eqb-true}
 use Rattle.state.specs.declared.State.{State}
 use Rattle.outcome.specs.declared.Outcome.{Outcome}
 use Rattle.record.specs.declared.Answer.{Answer}
-use Rattle.record.specs.Record.{readCall, written, writeCall}
+use Rattle.record.specs.Record.{readCall, writeResult, writeCall}
 use Rattle.mr74.specs.declared.FrameAnswer.{FrameAnswer}
 use Rattle.mr74.specs.Frame.{frameCall}
-use Rattle.capi.specs.Capi.{stateLength, rowsLength, flagsLength, fits, unfit, codeOf, stateIn, stateBytes, sheetIn, roomIn, outAfter, rowBytes, flagBytes, frameLeft, frameBytes, readLeft, readBytes, writeLeft, writeBytes}
+use Rattle.capi.specs.Capi.{stateLength, rowsLength, flagsLength, fits, unfit, codeOf, stateIn, stateBytes, sheetIn, roomIn, outAfter, rowBytes, flagBytes, frameReturn, frameBytes, readReturn, readBytes, writeReturn, writeBytes}
 
 both : (s t : Bool) → s && t ≡ true → (s ≡ true) × (t ≡ true)
 both true t e = (refl, e)
@@ -25,7 +25,7 @@ lengths state rows flags h =
     (eqb-true state stateLength (p .0), (eqb-true rows rowsLength (q .0), eqb-true flags flagsLength (q .1)))
 
 module _ (sheet state out rows flags : List ℕ) where
-  pub frame-unfit : fits (length state) (length rows) (length flags) ≡ false → frameLeft unfit state out rows flags ≡ frameBytes sheet state out rows flags
+  pub frame-unfit : fits (length state) (length rows) (length flags) ≡ false → frameReturn unfit state out rows flags ≡ frameBytes sheet state out rows flags
   unfolding frameBytes
   frame-unfit h = rw h
 
@@ -34,27 +34,27 @@ module _ (sheet state out rows flags : List ℕ) where
       → s ≡ stateIn state
       → (a ≡ frameCall (sheetIn sheet) s (roomIn out) .answer) × (out′ ≡ outAfter (frameCall (sheetIn sheet) s (roomIn out)) out)
       → code ≡ codeOf (a .outcome) → state′ ≡ stateBytes (a .next) → rows′ ≡ rowBytes (a .rows) → flags′ ≡ flagBytes (a .flags)
-      → frameLeft code state′ out′ rows′ flags′ ≡ frameBytes sheet state out rows flags
+      → frameReturn code state′ out′ rows′ flags′ ≡ frameBytes sheet state out rows flags
   unfolding frameBytes
   frame-given h es (ea, eo) ec et er ef = rw (h, ec, et, er, ef, eo, ea, es)
 
 module _ (bytes state : List ℕ) (note : ℕ) where
-  pub read-unfit : (length state ≡ stateLength → ⊥) → readLeft unfit state note ≡ readBytes bytes state note
+  pub read-unfit : (length state ≡ stateLength → ⊥) → readReturn unfit state note ≡ readBytes bytes state note
   unfolding readBytes
   read-unfit h = rw (ne-eqb _ _ h)
 
   pub read-given : length state ≡ stateLength → {a : Answer} {code : ℕ} {state′ part : List ℕ} {n : ℕ}
       → a ≡ readCall bytes .answer → code ≡ codeOf (a .outcome) → state′ ≡ stateBytes (a .state) → n ≡ length part → part ≡ readCall bytes .note
-      → readLeft code state′ n ≡ readBytes bytes state note
+      → readReturn code state′ n ≡ readBytes bytes state note
   unfolding readBytes
   read-given h ea ec et en ep = rw (eq-eqb _ _ h, ec, et, en, ep, ea)
 
 module _ (state lent : List ℕ) where
-  pub write-unfit : (length state ≡ stateLength → ⊥) → writeLeft unfit lent ≡ writeBytes state lent
+  pub write-unfit : (length state ≡ stateLength → ⊥) → writeReturn unfit lent ≡ writeBytes state lent
   unfolding writeBytes
   write-unfit h = rw (ne-eqb _ _ h)
 
   pub write-given : length state ≡ stateLength → {s : State} {o : Outcome} {code : ℕ} {last : List ℕ}
-      → s ≡ stateIn state → written o last ≡ writeCall s lent → code ≡ codeOf o → writeLeft code last ≡ writeBytes state lent
+      → s ≡ stateIn state → writeResult o last ≡ writeCall s lent → code ≡ codeOf o → writeReturn code last ≡ writeBytes state lent
   unfolding writeBytes
   write-given h es e ec = rw (eq-eqb _ _ h, ec, ← es, ← e)

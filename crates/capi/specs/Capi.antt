@@ -15,7 +15,7 @@ use Rattle.state.specs.Layout.{numbersOf, stateOf}
 use Rattle.coding.specs.Bytes.{words, bytesOf, Bytes}
 use Rattle.coding.specs.Body.{bodyLength}
 use Rattle.record.specs.Record.{readCall, writeCall}
-use Rattle.mr74.specs.Frame.{Called, frameCall}
+use Rattle.mr74.specs.Frame.{CallResult, frameCall}
 
 -- ---- how long the buffers are, in bytes: two for each number, one for each flag
 abbrev pub sheetCount : ℕ
@@ -75,7 +75,7 @@ abbrev pub roomIn : List ℕ → List ℤ
 roomIn out = replicate (roomOf (length out)) (pos 0)
 
 -- the lent output after the call: a refused one leaves it
-abbrev pub outAfter : Called → List ℕ → List ℕ
+abbrev pub outAfter : CallResult → List ℕ → List ℕ
 outAfter c out = cond (isAccepted (c .answer .outcome)) (bytesOf (c .lent)) out
 
 -- the four rows one after another
@@ -87,56 +87,56 @@ abbrev pub flagBytes : List Bool → List ℕ
 flagBytes flags = map (λ (flag : Bool). cond flag 1 0) flags
 
 -- the returned number, and what was lent
-pub record FrameLeft : Type 0 where
+pub record FrameReturn : Type 0 where
   pub code : ℕ
   pub state : List ℕ
   pub out : List ℕ
   pub rows : List ℕ
   pub flags : List ℕ
 
-abbrev pub frameLeft : ℕ → List ℕ → List ℕ → List ℕ → List ℕ → FrameLeft
-frameLeft code state out rows flags = record { code = code; state = state; out = out; rows = rows; flags = flags }
+abbrev pub frameReturn : ℕ → List ℕ → List ℕ → List ℕ → List ℕ → FrameReturn
+frameReturn code state out rows flags = record { code = code; state = state; out = out; rows = rows; flags = flags }
 
-unfoldable pub frameBytes : List ℕ → List ℕ → List ℕ → List ℕ → List ℕ → FrameLeft
+unfoldable pub frameBytes : List ℕ → List ℕ → List ℕ → List ℕ → List ℕ → FrameReturn
 frameBytes sheet state out rows flags =
     let c = frameCall (sheetIn sheet) (stateIn state) (roomIn out) in
     let a = c .answer in
     cond (fits (length state) (length rows) (length flags))
-    (frameLeft (codeOf (a .outcome)) (stateBytes (a .next)) (outAfter c out) (rowBytes (a .rows)) (flagBytes (a .flags)))
-    (frameLeft unfit state out rows flags)
+    (frameReturn (codeOf (a .outcome)) (stateBytes (a .next)) (outAfter c out) (rowBytes (a .rows)) (flagBytes (a .flags)))
+    (frameReturn unfit state out rows flags)
 
 -- ---- the reader
 -- the returned number, the lent state, and the lent number: the length of the note, which is what the record begins with
-pub record ReadLeft : Type 0 where
+pub record ReadReturn : Type 0 where
   pub code : ℕ
   pub state : List ℕ
   pub note : ℕ
 
-abbrev pub readLeft : ℕ → List ℕ → ℕ → ReadLeft
-readLeft code state note = record { code = code; state = state; note = note }
+abbrev pub readReturn : ℕ → List ℕ → ℕ → ReadReturn
+readReturn code state note = record { code = code; state = state; note = note }
 
-unfoldable pub readBytes : List ℕ → List ℕ → ℕ → ReadLeft
+unfoldable pub readBytes : List ℕ → List ℕ → ℕ → ReadReturn
 readBytes bytes state note =
     let t = readCall bytes in
-    cond (eqb (length state) stateLength) (readLeft (codeOf (t .answer .outcome)) (stateBytes (t .answer .state)) (length (t .note))) (readLeft unfit state note)
+    cond (eqb (length state) stateLength) (readReturn (codeOf (t .answer .outcome)) (stateBytes (t .answer .state)) (length (t .note))) (readReturn unfit state note)
 
 -- ---- the writer
 -- the returned number, and the lent record
-pub record WriteLeft : Type 0 where
+pub record WriteReturn : Type 0 where
   pub code : ℕ
   pub lent : List ℕ
 
-abbrev pub writeLeft : ℕ → List ℕ → WriteLeft
-writeLeft code lent = record { code = code; lent = lent }
+abbrev pub writeReturn : ℕ → List ℕ → WriteReturn
+writeReturn code lent = record { code = code; lent = lent }
 
-unfoldable pub writeBytes : List ℕ → List ℕ → WriteLeft
+unfoldable pub writeBytes : List ℕ → List ℕ → WriteReturn
 writeBytes state lent =
     let w = writeCall (stateIn state) lent in
-    cond (eqb (length state) stateLength) (writeLeft (codeOf (w .outcome)) (w .lent)) (writeLeft unfit lent)
+    cond (eqb (length state) stateLength) (writeReturn (codeOf (w .outcome)) (w .lent)) (writeReturn unfit lent)
 
--- ---- what a caller may rely on; the theorem is `kept` in proofs/Kept.antt
+-- ---- what a caller may rely on; the theorem is `kept` in proofs/RefusedUnchanged.antt
 -- a frame call that returns another number than 0 leaves the lent state and output as they were
-abbrev pub Kept : Type 0
-Kept =
+abbrev pub RefusedUnchanged : Type 0
+RefusedUnchanged =
     (sheet state out rows flags : List ℕ) → Bytes state → let left = frameBytes sheet state out rows flags in
     (left .code ≡ 0 → ⊥) → (left .state ≡ state) × (left .out ≡ out)

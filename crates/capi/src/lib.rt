@@ -3,9 +3,9 @@ ghost use mathlib.Core.Path.{_≡_};
 ghost use Prim.Native.Nat.{_*_, _≤_, _<_};
 ghost use lib.ListN.{length, take};
 ghost use Rattle.outcome.specs.Outcome.{placeOf};
-ghost use Rattle.mr74.specs.Frame.{called, frameCall};
+ghost use Rattle.mr74.specs.Frame.{callResult, frameCall};
 ghost use Rattle.coding.specs.Bytes.{bytesOf};
-ghost use Rattle.capi.specs.Capi.{fits, sheetCount, stateLength, rowsLength, flagsLength, codeOf, sheetIn, roomOf, roomIn, outAfter, rowBytes, flagBytes, stateBytes, frameLeft, frameBytes, readLeft, readBytes, writeLeft, writeBytes};
+ghost use Rattle.capi.specs.Capi.{fits, sheetCount, stateLength, rowsLength, flagsLength, codeOf, sheetIn, roomOf, roomIn, outAfter, rowBytes, flagBytes, stateBytes, frameReturn, frameBytes, readReturn, readBytes, writeReturn, writeBytes};
 use lpc::Rows;
 use mr74::FrameAnswer;
 use outcome::Outcome;
@@ -74,7 +74,7 @@ fn room(bytes: usize) -> usize
 
 // The call of a sheet's bytes.
 fn frame_in(sheet: &[u8], state: State, samples: &mut [i16]) -> FrameAnswer
-    ensures { λ r. ⌜ called r (now (samples .exit)) ≡ frameCall (sheetIn (now (sheet .entry))) state (now (samples .entry)) ⌝ }
+    ensures { λ r. ⌜ callResult r (now (samples .exit)) ≡ frameCall (sheetIn (now (sheet .entry))) state (now (samples .entry)) ⌝ }
 {
     let mut numbers = [0i16; SHEET];
     let n = sheet_in(sheet, &mut numbers);
@@ -156,7 +156,7 @@ pub extern "C" fn mr74_frame(
     rows: &mut [u8],
     flags: &mut [u8],
 ) -> u32
-    ensures { λ r. ⌜ frameLeft r (now (state .exit)) (now (out .exit)) (now (rows .exit)) (now (flags .exit)) ≡ frameBytes (now (sheet .entry)) (now (state .entry)) (now (out .entry)) (now (rows .entry)) (now (flags .entry)) ⌝ }
+    ensures { λ r. ⌜ frameReturn r (now (state .exit)) (now (out .exit)) (now (rows .exit)) (now (flags .exit)) ≡ frameBytes (now (sheet .entry)) (now (state .entry)) (now (out .entry)) (now (rows .entry)) (now (flags .entry)) ⌝ }
 {
     if fit(state.len(), rows.len(), flags.len()) {
         let before = coding::state_in(state);
@@ -169,7 +169,7 @@ pub extern "C" fn mr74_frame(
 // ---- the reader
 #[no_mangle]
 pub extern "C" fn mr74_read(bytes: &[u8], state: &mut [u8], note: &mut usize) -> u32
-    ensures { λ r. ⌜ readLeft r (now (state .exit)) (now (note .exit)) ≡ readBytes (now (bytes .entry)) (now (state .entry)) (now (note .entry)) ⌝ }
+    ensures { λ r. ⌜ readReturn r (now (state .exit)) (now (note .exit)) ≡ readBytes (now (bytes .entry)) (now (state .entry)) (now (note .entry)) ⌝ }
 {
     if state.len() != STATE_BYTES {
         return UNFIT;
@@ -186,7 +186,7 @@ pub extern "C" fn mr74_read(bytes: &[u8], state: &mut [u8], note: &mut usize) ->
 // ---- the writer
 #[no_mangle]
 pub extern "C" fn mr74_write(state: &[u8], bytes: &mut [u8]) -> u32
-    ensures { λ r. ⌜ writeLeft r (now (bytes .exit)) ≡ writeBytes (now (state .entry)) (now (bytes .entry)) ⌝ }
+    ensures { λ r. ⌜ writeReturn r (now (bytes .exit)) ≡ writeBytes (now (state .entry)) (now (bytes .entry)) ⌝ }
 {
     if state.len() != STATE_BYTES {
         return UNFIT;

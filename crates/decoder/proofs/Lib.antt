@@ -1,5 +1,5 @@
--- Synthesis: the two ways of the synthesis. Turns: the subframe step from its parts. Retry: what document 01 says of retries. Results: lengths, ranges, divisors.
+-- Synthesis: the two ways of the synthesis. Subframes: the subframe step from its parts. Retry: what document 01 says of retries. Results: lengths, ranges, divisors.
 pub mod Synthesis
-pub mod Turns
+pub mod Subframes
 pub mod Retry
 pub mod Results

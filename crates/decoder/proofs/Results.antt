@@ -28,8 +28,8 @@ use Rattle.synthesis.proofs.Samples.{overflowed-by-at, samples-words, newest-wo
 use Rattle.decoder.specs.declared.Core.{Core}
 use Rattle.decoder.specs.Inputs.{SubframeInputs, FrameInputs, UsableSubframe, Usable}
 use Rattle.decoder.specs.Enhance.{enhancedAt, enhanced, firstExcitation}
-use Rattle.decoder.specs.Subframe.{Fed, Subframe, kept, again, synthesised}
-use Rattle.decoder.specs.Core.{Turn, Decoded, excited, turn, ran, coreAfter, flagsOf, placesOf, samplesOf, quotientsOf, rowList, opened, decoded}
+use Rattle.decoder.specs.Subframe.{SynthesisInput, SynthesisResult, unretriedResult, retriedResult, synthesisResult}
+use Rattle.decoder.specs.Core.{SubframeResult, CoreResult, excitations, subframeResult, subframeResults, coreAfter, flagsOf, placesOf, samplesOf, quotientsOf, rowList, openedCore, coreResult}
 use Rattle.decoder.proofs.Retry.{Small, retry}
 
 -- ---- the first excitation
@@ -48,20 +48,20 @@ first-divisors v pitch exc =
     either (λ (x : Divided (List ℤ)). Every (Divides 16384) (x .quotients)) (ltZ (pos 0) (sub g (pos 16384))) (agc2-divisors exc (enhanced g pitch exc v)) tt
 
 -- ---- what the synthesis is fed
-pub record Forty (f : Fed) : Type 0 where
+pub record Forty (f : SynthesisInput) : Type 0 where
   pub feedback : Words 40 (f .feedback)
   pub excitation : length (f .excitation) ≡ 40
 
 -- ---- what the synthesis makes
-pub record Made (d : Subframe) : Type 0 where
+pub record Made (d : SynthesisResult) : Type 0 where
   pub samples : Words 40 (d .samples)
   pub past : Words 154 (d .past)
 
 pub taking-words : (past exc : List ℤ) → Words 154 past → Words 40 exc → Words 154 (taking past exc)
 taking-words past exc p e = words-append (drop 40 past) exc (words-drop 40 past p) e
 
-pub made : (f : Fed) (h p : List ℤ) → Forty f → length h ≡ 10 → Words 154 p → Made (synthesised f h p)
-unfolding synthesised
+pub synthesis : (f : SynthesisInput) (h p : List ℤ) → Forty f → length h ≡ 10 → Words 154 p → Made (synthesisResult f h p)
+unfolding synthesisResult
 made f h p k e w =
     let q = words-quartered (f .feedback) (k .feedback) in
     either Made (overflowed 10 (f .row) (f .excitation) h)
@@ -69,11 +69,11 @@ made f h p k e w =
     (record { samples = samples-words (f .row) (f .excitation) h e (k .excitation); past = taking-words p (f .feedback) w (k .feedback) })
 
 -- the flag, by the place
-pub made-flag : (f : Fed) (h p : List ℤ) → length (f .excitation) ≡ 40 → synthesised f h p .retried ≡ ltb (synthesised f h p .place) 40
-unfolding synthesised
+pub made-flag : (f : SynthesisInput) (h p : List ℤ) → length (f .excitation) ≡ 40 → synthesisResult f h p .retried ≡ ltb (synthesisResult f h p .place) 40
+unfolding synthesisResult
 made-flag f h p e = go (overflowed 10 (f .row) (f .excitation) h) (overflowed-by-at 10 (f .row) (f .excitation) h ∙ rw e)
   where
-    go : (b : Bool) → b ≡ ltb (overflowedAt 10 (f .row) (f .excitation) h) 40 → cond b (again f h p) (kept f h p) .retried ≡ ltb (cond b (again f h p) (kept f h p) .place) 40
+    go : (b : Bool) → b ≡ ltb (overflowedAt 10 (f .row) (f .excitation) h) 40 → cond b (retriedResult f h p) (unretriedResult f h p) .retried ≡ ltb (cond b (retriedResult f h p) (unretriedResult f h p) .place) 40
     go true k = k
     go false k = k
 
@@ -89,25 +89,25 @@ pub record Next (lsps : List ℤ) (c : Core) : Type 0 where
   pub lsp : c .lsp ≡ lsps
   pub sharpening : (pos 0 ≤ℤ c .sharpening .0) × (c .sharpening .0 ≤ℤ pos 13017)
 
-pub record Result (lsps : List ℤ) (t : Turn) : Type 0 where
-  pub forty : Forty (t .fed)
-  pub samples : Words 40 (t .made .samples)
-  pub flag : t .made .retried ≡ ltb (t .made .place) 40
+pub record SubframeFacts (lsps : List ℤ) (t : SubframeResult) : Type 0 where
+  pub forty : Forty (t .input)
+  pub samples : Words 40 (t .synthesis .samples)
+  pub flag : t .synthesis .retried ≡ ltb (t .synthesis .place) 40
   pub divisors : Every (Divides 16384) (t .quotients)
   pub next : Next lsps (t .next)
   -- after a retry every number of the past lies in -8192..=8191
-  pub small : t .made .retried ≡ true → Every Small (t .next .past)
+  pub small : t .synthesis .retried ≡ true → Every Small (t .next .past)
 
 module _ (c : Core) (row : List ℤ) (p : SubframeInputs) where
-  pub turn-divisors : Every (Divides 16384) (turn c row p .quotients)
-  unfolding turn excited
-  turn-divisors =
+  pub subframe-divisors : Every (Divides 16384) (subframeResult c row p .quotients)
+  unfolding subframeResult excitations
+  subframe-divisors =
       let v = predicted (c .past) (p .lag) in
       let exc = feedback v (p .pitch) (sharpened (p .innovation) (p .lag .samples) (c .sharpening .0)) (p .code) in
       every-append (Divides 16384) (firstExcitation v (p .pitch) exc .quotients) [] (first-divisors v (p .pitch) exc) tt
 
-  turn-forty : length (c .past) ≡ 154 → Forty (turn c row p .fed)
-  unfolding turn excited feedback
+  turn-forty : length (c .past) ≡ 154 → Forty (subframeResult c row p .input)
+  unfolding subframeResult excitations feedback
   turn-forty h =
       let v = predicted (c .past) (p .lag) in
       let code = sharpened (p .innovation) (p .lag .samples) (c .sharpening .0) in
@@ -119,97 +119,97 @@ module _ (c : Core) (row : List ℤ) (p : SubframeInputs) where
         excitation = first-length v (p .pitch) (feedback v (p .pitch) code (p .code)) l ∙ l ∙ n;
       }
 
-  pub turn-result : Held c → UsableSubframe p → Result (c .lsp) (turn c row p)
-  unfolding turn
-  turn-result h u =
-      let t = turn c row p in
+  pub subframe-facts : Held c → UsableSubframe p → SubframeFacts (c .lsp) (subframeResult c row p)
+  unfolding subframeResult
+  subframe-facts h u =
+      let t = subframeResult c row p in
       let k = turn-forty (h .past .count) in
-      let m = made (t .fed) (c .history) (c .past) k (h .history .count) (h .past) in
-      let r = retry (t .fed) (c .history) (c .past) (h .history .count) in
+      let m = made (t .input) (c .history) (c .past) k (h .history .count) (h .past) in
+      let r = retry (t .input) (c .history) (c .past) (h .history .count) in
       record {
         forty = k;
         samples = m .samples;
-        flag = made-flag (t .fed) (c .history) (c .past) (k .excitation);
-        divisors = turn-divisors;
+        flag = made-flag (t .input) (c .history) (c .past) (k .excitation);
+        divisors = subframe-divisors;
         next = record {
-          held = record { past = m .past; history = newest-words (t .made .samples) (m .samples) };
+          held = record { past = m .past; history = newest-words (t .synthesis .samples) (m .samples) };
           lsp = refl;
           sharpening = sharpening-range (p .pitch) (u .pitch);
         };
-        small = λ e. every-at Small (t .next .past) (r .again-small (sym (r .flag) ∙ e) (h .past .fit) (k .feedback .fit));
+        small = λ e. every-at Small (t .next .past) (r .retried-small (sym (r .flag) ∙ e) (h .past .fit) (k .feedback .fit));
       }
 
 -- ---- the subframes of a frame
-results : (c : Core) (rows : List (List ℤ)) (ps : List SubframeInputs) (lsps : List ℤ) → c .lsp ≡ lsps → Held c → Every UsableSubframe ps → Every (Result lsps) (ran c rows ps)
-unfolding ran
+results : (c : Core) (rows : List (List ℤ)) (ps : List SubframeInputs) (lsps : List ℤ) → c .lsp ≡ lsps → Held c → Every UsableSubframe ps → Every (SubframeFacts lsps) (subframeResults c rows ps)
+unfolding subframeResults
 results c [] ps lsps e h u = tt
 results c (row ∷ rows) [] lsps e h u = tt
 results c (row ∷ rows) (p ∷ ps) lsps e h u =
-    let r = subst (λ (l : List ℤ). Result l (turn c row p)) e (turn-result c row p h (u .0)) in
-    (r, results (turn c row p .next) rows ps lsps (r .next .lsp) (r .next .held) (u .1))
+    let r = subst (λ (l : List ℤ). SubframeFacts l (subframeResult c row p)) e (subframe-facts c row p h (u .0)) in
+    (r, results (subframeResult c row p .next) rows ps lsps (r .next .lsp) (r .next .held) (u .1))
 
 -- each has its row
-ran-rows : (c : Core) (rows : List (List ℤ)) (ps : List SubframeInputs) → length rows ≡ length ps → map (λ (t : Turn). t .fed .row) (ran c rows ps) ≡ rows
-unfolding ran turn
+ran-rows : (c : Core) (rows : List (List ℤ)) (ps : List SubframeInputs) → length rows ≡ length ps → map (λ (t : SubframeResult). t .input .row) (subframeResults c rows ps) ≡ rows
+unfolding subframeResults subframeResult
 ran-rows c [] ps e = refl
 ran-rows c (row ∷ rows) [] e = absurd (omega (arith, e))
-ran-rows c (row ∷ rows) (p ∷ ps) e = ap (λ (xs : List (List ℤ)). row ∷ xs) (ran-rows (turn c row p .next) rows ps (omega (arith, e)))
+ran-rows c (row ∷ rows) (p ∷ ps) e = ap (λ (xs : List (List ℤ)). row ∷ xs) (ran-rows (subframeResult c row p .next) rows ps (omega (arith, e)))
 
 -- the last of n + 1, of which Q holds as of each
-record Last (Q : Turn → Type 0) (c : Core) (ts : List Turn) (n : ℕ) : Type 0 where
-  turn : Turn
-  holds : Q turn
-  next : coreAfter c ts ≡ turn .next
-  flag : getD (flagsOf ts) n false ≡ turn .made .retried
+record Last (Q : SubframeResult → Type 0) (c : Core) (ts : List SubframeResult) (n : ℕ) : Type 0 where
+  subframeResult : SubframeResult
+  holds : Q subframeResult
+  next : coreAfter c ts ≡ subframeResult .next
+  flag : getD (flagsOf ts) n false ≡ subframeResult .synthesis .retried
 
-last : (Q : Turn → Type 0) (c : Core) (ts : List Turn) (n : ℕ) → length ts ≡ suc n → Every Q ts → Last Q c ts n
+last : (Q : SubframeResult → Type 0) (c : Core) (ts : List SubframeResult) (n : ℕ) → length ts ≡ suc n → Every Q ts → Last Q c ts n
 last Q c [] n l e = absurd (omega (arith, l))
-last Q c (t ∷ []) zero l e = record { turn = t; holds = e .0; next = refl; flag = refl }
+last Q c (t ∷ []) zero l e = record { subframeResult = t; holds = e .0; next = refl; flag = refl }
 last Q c (t ∷ []) (suc n) l e = absurd (omega (arith, l))
 last Q c (t ∷ u ∷ ts) zero l e = absurd (omega (arith, l))
 last Q c (t ∷ u ∷ ts) (suc n) l e =
     let r = last Q (t .next) (u ∷ ts) n (omega (arith, l)) (e .1) in
-    record { turn = r .turn; holds = r .holds; next = r .next; flag = r .flag }
+    record { subframeResult = r .turn; holds = r .holds; next = r .next; flag = r .flag }
 
 every-flat : {A B : Type 0} (P : B → Type 0) (f : A → List B) (xs : List A) → Every (λ (x : A). Every P (f x)) xs → Every P (flatMap f xs)
 unfolding flatMap
 every-flat P f [] e = tt
 every-flat P f (x ∷ xs) e = every-append P (f x) (flatMap f xs) (e .0) (every-flat P f xs (e .1))
 
-joined-words : (ts : List Turn) → Every (λ (t : Turn). Words 40 (t .made .samples)) ts → Words (40 * length ts) (samplesOf ts)
+joined-words : (ts : List SubframeResult) → Every (λ (t : SubframeResult). Words 40 (t .synthesis .samples)) ts → Words (40 * length ts) (samplesOf ts)
 unfolding flatMap
 joined-words [] e = record { count = refl; fit = λ i. zero-fits }
-joined-words (t ∷ ts) e = subst (λ (n : ℕ). Words n (samplesOf (t ∷ ts))) (omega arith) (words-append (t .made .samples) (samplesOf ts) (e .0) (joined-words ts (e .1)))
+joined-words (t ∷ ts) e = subst (λ (n : ℕ). Words n (samplesOf (t ∷ ts))) (omega arith) (words-append (t .synthesis .samples) (samplesOf ts) (e .0) (joined-words ts (e .1)))
 
-flags-by-places : (ts : List Turn) → Every (λ (t : Turn). t .made .retried ≡ ltb (t .made .place) 40) ts → map (λ (place : ℕ). ltb place 40) (placesOf ts) ≡ flagsOf ts
+flags-by-places : (ts : List SubframeResult) → Every (λ (t : SubframeResult). t .synthesis .retried ≡ ltb (t .synthesis .place) 40) ts → map (λ (place : ℕ). ltb place 40) (placesOf ts) ≡ flagsOf ts
 flags-by-places [] e = refl
 flags-by-places (t ∷ ts) e = ap₂ (λ (b : Bool) (bs : List Bool). b ∷ bs) (sym (e .0)) (flags-by-places ts (e .1))
 
 -- ---- the core of a frame
-pub record CoreResult (lsps : List ℤ) (d : Decoded) : Type 0 where
-  pub rows : map (λ (t : Turn). t .fed .row) (d .turns) ≡ rowList (d .rows)
-  pub four : length (d .turns) ≡ 4
-  pub samples : Words 160 (samplesOf (d .turns))
-  pub flags : map (λ (place : ℕ). ltb place 40) (placesOf (d .turns)) ≡ flagsOf (d .turns)
-  pub divisors : Every (Divides 16384) (quotientsOf (d .turns))
+pub record CoreFacts (lsps : List ℤ) (d : CoreResult) : Type 0 where
+  pub rows : map (λ (t : SubframeResult). t .input .row) (d .subframes) ≡ rowList (d .rows)
+  pub four : length (d .subframes) ≡ 4
+  pub samples : Words 160 (samplesOf (d .subframes))
+  pub flags : map (λ (place : ℕ). ltb place 40) (placesOf (d .subframes)) ≡ flagsOf (d .subframes)
+  pub divisors : Every (Divides 16384) (quotientsOf (d .subframes))
   pub next : Next lsps (d .next)
   -- after a retried last subframe
-  pub small : getD (flagsOf (d .turns)) 3 false ≡ true → Every Small (d .next .past)
+  pub small : getD (flagsOf (d .subframes)) 3 false ≡ true → Every Small (d .next .past)
 
-pub core-result : (c : Core) (f : FrameInputs) → Usable f → Held c → CoreResult (lspsOf (f .lsfs)) (decoded c f)
-unfolding decoded
-core-result c f u h =
-    let ts = decoded c f .turns in
-    let rows = ran-rows (opened c f) (rowList (decoded c f .rows)) (f .subframes) (sym (u .four)) in
-    let four = sym (length-map ts (λ (t : Turn). t .fed .row)) ∙ ap length rows in
-    let each = results (opened c f) (rowList (decoded c f .rows)) (f .subframes) (lspsOf (f .lsfs)) refl (record { past = h .past; history = h .history }) (u .subframes) in
-    let l = last (Result (lspsOf (f .lsfs))) (opened c f) ts 3 four each in
+pub core-facts : (c : Core) (f : FrameInputs) → Usable f → Held c → CoreFacts (lspsOf (f .lsfs)) (coreResult c f)
+unfolding coreResult
+core-facts c f u h =
+    let ts = coreResult c f .subframes in
+    let rows = ran-rows (openedCore c f) (rowList (coreResult c f .rows)) (f .subframes) (sym (u .four)) in
+    let four = sym (length-map ts (λ (t : SubframeResult). t .input .row)) ∙ ap length rows in
+    let each = results (openedCore c f) (rowList (coreResult c f .rows)) (f .subframes) (lspsOf (f .lsfs)) refl (record { past = h .past; history = h .history }) (u .subframes) in
+    let l = last (SubframeFacts (lspsOf (f .lsfs))) (openedCore c f) ts 3 four each in
     record {
       rows = rows;
       four = four;
       samples = rw four at (joined-words ts (every-map (λ t r. r .samples) ts each));
       flags = flags-by-places ts (every-map (λ t r. r .flag) ts each);
-      divisors = every-flat (Divides 16384) (λ (t : Turn). t .quotients) ts (every-map (λ t r. r .divisors) ts each);
+      divisors = every-flat (Divides 16384) (λ (t : SubframeResult). t .quotients) ts (every-map (λ t r. r .divisors) ts each);
       next = rw (l .next) (l .holds .next);
       small = λ e. rw (l .next) (l .holds .small (sym (l .flag) ∙ e));
     }

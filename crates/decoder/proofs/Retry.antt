@@ -15,7 +15,7 @@ use Rattle.synthesis.specs.Synthesis.{samples}
 use Rattle.synthesis.specs.Whole.{retried, retriedAt}
 use Rattle.synthesis.proofs.Agree.{agree}
 use Rattle.excitation.proofs.Ranges.{quarter-range}
-use Rattle.decoder.specs.Subframe.{Fed, Subframe, kept, again, synthesised}
+use Rattle.decoder.specs.Subframe.{SynthesisInput, SynthesisResult, unretriedResult, retriedResult, synthesisResult}
 use Rattle.decoder.specs.Retry.{Retry}
 
 -- a number in -8192..=8191
@@ -30,32 +30,32 @@ quartered-small [] f i = small-zero
 quartered-small (z ∷ zs) f zero = quarter-range z (f 0)
 quartered-small (z ∷ zs) f (suc i) = quartered-small zs (λ j. f (suc j)) i
 
-module _ (f : Fed) (h p : List ℤ) (l : length h ≡ 10) where
-  flagged : (b : Bool) → retried 10 (f .row) (f .excitation) h ≡ b → synthesised f h p ≡ cond b (again f h p) (kept f h p)
-  unfolding synthesised
+module _ (f : SynthesisInput) (h p : List ℤ) (l : length h ≡ 10) where
+  flagged : (b : Bool) → retried 10 (f .row) (f .excitation) h ≡ b → synthesisResult f h p ≡ cond b (retriedResult f h p) (unretriedResult f h p)
+  unfolding synthesisResult
   flagged b e = rw (agree 10 (f .row) (f .excitation) h l .flag, e)
 
   -- the two cases
-  flag-is : (b : Bool) → retried 10 (f .row) (f .excitation) h ≡ b → synthesised f h p .retried ≡ retried 10 (f .row) (f .excitation) h
-  flag-is true e = ap (λ (s : Subframe). s .retried) (flagged true e) ∙ sym e
-  flag-is false e = ap (λ (s : Subframe). s .retried) (flagged false e) ∙ sym e
+  flag-is : (b : Bool) → retried 10 (f .row) (f .excitation) h ≡ b → synthesisResult f h p .retried ≡ retried 10 (f .row) (f .excitation) h
+  flag-is true e = ap (λ (s : SynthesisResult). s .retried) (flagged true e) ∙ sym e
+  flag-is false e = ap (λ (s : SynthesisResult). s .retried) (flagged false e) ∙ sym e
 
-  place-is : (b : Bool) → retried 10 (f .row) (f .excitation) h ≡ b → synthesised f h p .place ≡ retriedAt 10 (f .row) (f .excitation) h
-  place-is true e = ap (λ (s : Subframe). s .place) (flagged true e) ∙ agree 10 (f .row) (f .excitation) h l .place
-  place-is false e = ap (λ (s : Subframe). s .place) (flagged false e) ∙ agree 10 (f .row) (f .excitation) h l .place
+  place-is : (b : Bool) → retried 10 (f .row) (f .excitation) h ≡ b → synthesisResult f h p .place ≡ retriedAt 10 (f .row) (f .excitation) h
+  place-is true e = ap (λ (s : SynthesisResult). s .place) (flagged true e) ∙ agree 10 (f .row) (f .excitation) h l .place
+  place-is false e = ap (λ (s : SynthesisResult). s .place) (flagged false e) ∙ agree 10 (f .row) (f .excitation) h l .place
 
   pub retry : Retry f h p
   retry =
       record {
         flag = flag-is (retried 10 (f .row) (f .excitation) h) refl;
         place = place-is (retried 10 (f .row) (f .excitation) h) refl;
-        kept-samples = λ e. ap (λ (s : Subframe). s .samples) (flagged false e) ∙ agree 10 (f .row) (f .excitation) h l .all e;
-        kept-feedback = λ e. ap (λ (s : Subframe). s .feedback) (flagged false e);
-        kept-past = λ e. ap (λ (s : Subframe). s .past) (flagged false e);
-        again-samples = λ e. ap (λ (s : Subframe). s .samples) (flagged true e);
-        again-feedback = λ e. ap (λ (s : Subframe). s .feedback) (flagged true e);
-        again-past = λ e. ap (λ (s : Subframe). s .past) (flagged true e);
-        again-small = λ e q g i.
+        unretried-samples = λ e. ap (λ (s : SynthesisResult). s .samples) (flagged false e) ∙ agree 10 (f .row) (f .excitation) h l .all e;
+        unretried-feedback = λ e. ap (λ (s : SynthesisResult). s .feedback) (flagged false e);
+        unretried-past = λ e. ap (λ (s : SynthesisResult). s .past) (flagged false e);
+        retried-samples = λ e. ap (λ (s : SynthesisResult). s .samples) (flagged true e);
+        retried-feedback = λ e. ap (λ (s : SynthesisResult). s .feedback) (flagged true e);
+        retried-past = λ e. ap (λ (s : SynthesisResult). s .past) (flagged true e);
+        retried-small = λ e q g i.
             rw (flagged true e)
             (each-append Small small-zero (drop 40 (quartered p)) (quartered (f .feedback))
             (each-drop Small small-zero 40 (quartered p) (quartered-small p q))

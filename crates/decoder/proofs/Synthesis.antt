@@ -10,12 +10,12 @@ use Rattle.basicop.specs.Ops.{quartered}
 use Rattle.synthesis.specs.Synthesis.{samples, overflowed, overflowedAt, previewed, filtered}
 use Rattle.synthesis.proofs.Samples.{overflowed-by-at, previewed-all}
 use Rattle.excitation.specs.Excitation.{taking}
-use Rattle.decoder.specs.declared.Synthesised.{Synthesised}
-use Rattle.decoder.specs.Subframe.{Fed, synthesised, told}
+use Rattle.decoder.specs.declared.SynthesisOutput.{SynthesisOutput}
+use Rattle.decoder.specs.Subframe.{SynthesisInput, synthesisResult, synthesisOutput}
 
 module _ (a fb x h p : List ℤ) (l : length x ≡ 40) where
-  abbrev fed : Fed
-  fed = record { row = a; feedback = fb; excitation = x }
+  abbrev fed : SynthesisInput
+  input = record { row = a; feedback = fb; excitation = x }
 
   -- a step of the first pass clamped, or none did
   clamped : overflowedAt 10 a x h < 40 → overflowed 10 a x h ≡ true
@@ -24,10 +24,10 @@ module _ (a fb x h p : List ℤ) (l : length x ≡ 40) where
   unclamped : 40 ≤ overflowedAt 10 a x h → overflowed 10 a x h ≡ false
   unclamped n = overflowed-by-at 10 a x h ∙ rw l (le-ltb _ 40 n)
 
-  pub synthesised-again : {place : ℕ} {ys qs ps : List ℤ} → place ≡ previewed a x h .place → place < 40 → qs ≡ quartered fb → ys ≡ filtered a qs h .samples → ps ≡ taking (quartered p) qs → _≡_ {A = Synthesised} (record { place = place; samples = ys; feedback = qs; past = ps }) (told (synthesised fed h p))
-  unfolding synthesised previewed filtered
+  pub synthesised-again : {place : ℕ} {ys qs ps : List ℤ} → place ≡ previewed a x h .place → place < 40 → qs ≡ quartered fb → ys ≡ filtered a qs h .samples → ps ≡ taking (quartered p) qs → _≡_ {A = SynthesisOutput} (record { place = place; samples = ys; feedback = qs; past = ps }) (synthesisOutput (synthesisResult fed h p))
+  unfolding synthesisResult previewed filtered
   synthesised-again e n q y t = rw (clamped (rw e at n)) (rw (e, y, t, q))
 
-  pub synthesised-kept : {place : ℕ} {ys ps : List ℤ} → place ≡ previewed a x h .place → 40 ≤ place → ys ≡ previewed a x h .samples → ps ≡ taking p fb → _≡_ {A = Synthesised} (record { place = place; samples = ys; feedback = fb; past = ps }) (told (synthesised fed h p))
-  unfolding synthesised previewed
+  pub synthesised-kept : {place : ℕ} {ys ps : List ℤ} → place ≡ previewed a x h .place → 40 ≤ place → ys ≡ previewed a x h .samples → ps ≡ taking p fb → _≡_ {A = SynthesisOutput} (record { place = place; samples = ys; feedback = fb; past = ps }) (synthesisOutput (synthesisResult fed h p))
+  unfolding synthesisResult previewed
   synthesised-kept e n y t = let o = unclamped (rw e at n) in rw o (rw (e, y, t, previewed-all a x h o))

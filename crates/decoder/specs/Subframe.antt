@@ -6,17 +6,17 @@ use lib.IntN.{ℤ}
 use Rattle.basicop.specs.Ops.{quartered}
 use Rattle.synthesis.specs.Synthesis.{samples, overflowed, overflowedAt}
 use Rattle.excitation.specs.Excitation.{taking}
-use Rattle.decoder.specs.declared.Synthesised.{Synthesised}
+use Rattle.decoder.specs.declared.SynthesisOutput.{SynthesisOutput}
 
 -- what the synthesis is fed: the row a0..a10, the feedback before any quartering, the first excitation
-pub record Fed : Type 0 where
+pub record SynthesisInput : Type 0 where
   pub row : List ℤ
   pub feedback : List ℤ
   pub excitation : List ℤ
 
 -- what comes of it: whether it was retried, the first sample of the first pass at which a step clamped (40 where none did), the synthesis samples,
 -- the feedback, and the past with that feedback taken in
-pub record Subframe : Type 0 where
+pub record SynthesisResult : Type 0 where
   pub retried : Bool
   pub place : ℕ
   pub samples : List ℤ
@@ -24,8 +24,8 @@ pub record Subframe : Type 0 where
   pub past : List ℤ
 
 -- nothing clamped: the samples of the first pass
-abbrev pub kept : Fed → List ℤ → List ℤ → Subframe
-kept f history past =
+abbrev pub unretriedResult : SynthesisInput → List ℤ → List ℤ → SynthesisResult
+unretriedResult f history past =
     record {
       retried = false;
       place = overflowedAt 10 (f .row) (f .excitation) history;
@@ -34,9 +34,9 @@ kept f history past =
       past = taking past (f .feedback);
     }
 
--- Overflow: feedback and past are each >> 2, and Syn_filt runs again on that feedback, from the same history; its own clamps are not reported
-abbrev pub again : Fed → List ℤ → List ℤ → Subframe
-again f history past =
+-- Overflow: feedback and past are each >> 2, and Syn_filt runs retriedResult on that feedback, from the same history; its own clamps are not reported
+abbrev pub retriedResult : SynthesisInput → List ℤ → List ℤ → SynthesisResult
+retriedResult f history past =
     record {
       retried = true;
       place = overflowedAt 10 (f .row) (f .excitation) history;
@@ -45,9 +45,9 @@ again f history past =
       past = taking (quartered past) (quartered (f .feedback));
     }
 
-unfoldable pub synthesised : Fed → List ℤ → List ℤ → Subframe
-synthesised f history past = cond (overflowed 10 (f .row) (f .excitation) history) (again f history past) (kept f history past)
+unfoldable pub synthesisResult : SynthesisInput → List ℤ → List ℤ → SynthesisResult
+synthesisResult f history past = cond (overflowed 10 (f .row) (f .excitation) history) (retriedResult f history past) (unretriedResult f history past)
 
 -- what the code gives of it
-abbrev pub told : Subframe → Synthesised
-told s = record { place = s .place; samples = s .samples; feedback = s .feedback; past = s .past }
+abbrev pub synthesisOutput : SynthesisResult → SynthesisOutput
+synthesisOutput s = record { place = s .place; samples = s .samples; feedback = s .feedback; past = s .past }

@@ -4,9 +4,9 @@ ghost use mathlib.Core.List.{_++_};
 ghost use Prim.Native.Nat.{_+_, _*_, _<_};
 ghost use lib.ListN.{take};
 ghost use Rattle.decoder.specs.Enhance.{enhancedAt, enhanced, firstExcitation};
-ghost use Rattle.decoder.specs.Subframe.{synthesised, told};
+ghost use Rattle.decoder.specs.Subframe.{synthesisResult, synthesisOutput};
 ghost use Rattle.decoder.specs.Inputs.{subframeOf, inputsOf, UsableSubframe, Usable};
-ghost use Rattle.decoder.specs.Core.{excited, turn, toldTurn, rowList, ran, toldRun, decoded, toldFrame};
+ghost use Rattle.decoder.specs.Core.{excitations, subframeResult, subframeOutput, rowList, subframeResults, subframesOutput, coreResult, coreOutput};
 ghost use Rattle.lists.specs.Lists.{Every};
 use basicop::Q1;
 use basicop::Q14;
@@ -73,7 +73,7 @@ fn first_excitation(adaptive: [i16; 40], pitch: Q14, feedback: [i16; 40]) -> [i1
 }
 
 // What comes of a subframe's synthesis.
-pub struct Synthesised {
+pub struct SynthesisOutput {
     // the first sample of the first pass at which a step clamped, 40 where none did
     pub place: usize,
     pub samples: [i16; 40],
@@ -88,8 +88,8 @@ fn synthesise(
     excitation: [i16; 40],
     history: [i16; 10],
     past: [i16; 154],
-) -> Synthesised
-    ensures { λ r. ⌜ r ≡ told (synthesised (record { row = row; feedback = feedback; excitation = excitation }) history past) ⌝ }
+) -> SynthesisOutput
+    ensures { λ r. ⌜ r ≡ synthesisOutput (synthesisResult (record { row = row; feedback = feedback; excitation = excitation }) history past) ⌝ }
 {
     let first = synthesis::preview(row, excitation, history);
     let place = first.place;
@@ -100,7 +100,7 @@ fn synthesise(
         basicop::quarter(&mut quarter_past);
         let again = synthesis::filter(row, quarter, history);
         let samples = again.samples;
-        return Synthesised {
+        return SynthesisOutput {
             place,
             samples,
             feedback: quarter,
@@ -108,7 +108,7 @@ fn synthesise(
         };
     }
     let samples = first.samples;
-    Synthesised {
+    SynthesisOutput {
         place,
         samples,
         feedback,
@@ -117,15 +117,15 @@ fn synthesise(
 }
 
 // The feedback before any quartering, and the first excitation.
-pub struct Excited {
+pub struct Excitations {
     pub feedback: [i16; 40],
     pub excitation: [i16; 40],
 }
 
 // Asks that the lag lies in 19..=144.
-fn excite(past: [i16; 154], sharpening: Q14, p: Parameters) -> Excited
+fn excite(past: [i16; 154], sharpening: Q14, p: Parameters) -> Excitations
     requires { ⌜ UsableSubframe (subframeOf p) ⌝ }
-    ensures { λ r. ⌜ r ≡ excited past (sharpening .0) (subframeOf p) .value ⌝ }
+    ensures { λ r. ⌜ r ≡ excitations past (sharpening .0) (subframeOf p) .value ⌝ }
 {
     let lag = p.lag;
     let pitch = p.pitch;
@@ -134,23 +134,23 @@ fn excite(past: [i16; 154], sharpening: Q14, p: Parameters) -> Excited
     let code = excitation::sharpen(innovation, lag.samples as usize, sharpening);
     let feedback = excitation::feedback(adaptive, code, pitch, p.code);
     let excitation = first_excitation(adaptive, pitch, feedback);
-    Excited {
+    Excitations {
         feedback,
         excitation,
     }
 }
 
 // What a subframe gives, and the core's state after it.
-pub struct Turned {
+pub struct SubframeOutput {
     pub place: usize,
     pub samples: [i16; 40],
     pub next: Core,
 }
 
 // The subframe step.
-fn turn(core: Core, row: [i16; 11], p: Parameters) -> Turned
+fn decode_subframe(core: Core, row: [i16; 11], p: Parameters) -> SubframeOutput
     requires { ⌜ UsableSubframe (subframeOf p) ⌝ }
-    ensures { λ r. ⌜ r ≡ toldTurn (turn core row (subframeOf p)) ⌝ }
+    ensures { λ r. ⌜ r ≡ subframeOutput (subframeResult core row (subframeOf p)) ⌝ }
 {
     let past = core.past;
     let e = excite(past, core.sharpening, p);
@@ -163,7 +163,7 @@ fn turn(core: Core, row: [i16; 11], p: Parameters) -> Turned
     let after = s.past;
     let sharpening = excitation::next_sharpening(p.pitch);
     let newest = synthesis::newest(samples);
-    Turned {
+    SubframeOutput {
         place: s.place,
         samples,
         next: Core {
@@ -196,38 +196,38 @@ fn joined(a: [i16; 40], b: [i16; 40], c: [i16; 40], d: [i16; 40]) -> [i16; 160]
 }
 
 // The four subframes, each from the state that the one before left.
-pub struct Ran {
+pub struct SubframesOutput {
     pub places: [usize; 4],
     pub samples: [i16; 160],
     pub next: Core,
 }
 
-fn run(core: Core, rows: Rows, inputs: Inputs) -> Ran
+fn decode_subframes(core: Core, rows: Rows, inputs: Inputs) -> SubframesOutput
     requires { ⌜ Every UsableSubframe (inputsOf inputs .subframes) ⌝ }
-    ensures { λ r. ⌜ r ≡ toldRun core (ran core (rowList rows) (inputsOf inputs .subframes)) ⌝ }
+    ensures { λ r. ⌜ r ≡ subframesOutput core (subframeResults core (rowList rows) (inputsOf inputs .subframes)) ⌝ }
 {
     let first = rows.a;
     let pa = inputs.a;
-    let a = turn(core, first, pa);
+    let a = decode_subframe(core, first, pa);
     let after_a = a.next;
     let second = rows.b;
     let pb = inputs.b;
-    let b = turn(after_a, second, pb);
+    let b = decode_subframe(after_a, second, pb);
     let after_b = b.next;
     let third = rows.c;
     let pc = inputs.c;
-    let c = turn(after_b, third, pc);
+    let c = decode_subframe(after_b, third, pc);
     let after_c = c.next;
     let fourth = rows.d;
     let pd = inputs.d;
-    let d = turn(after_c, fourth, pd);
+    let d = decode_subframe(after_c, fourth, pd);
     let next = d.next;
     let ya = a.samples;
     let yb = b.samples;
     let yc = c.samples;
     let yd = d.samples;
     let samples = joined(ya, yb, yc, yd);
-    Ran {
+    SubframesOutput {
         places: [a.place, b.place, c.place, d.place],
         samples,
         next,
@@ -235,15 +235,15 @@ fn run(core: Core, rows: Rows, inputs: Inputs) -> Ran
 }
 
 // The rows of a frame, and what its subframes give.
-pub struct Frame {
+pub struct CoreOutput {
     pub rows: Rows,
-    pub run: Ran,
+    pub subframes: SubframesOutput,
 }
 
 // The core of a frame. The checks of a call show what it asks.
-pub fn decode(core: Core, inputs: Inputs) -> Frame
+pub fn decode(core: Core, inputs: Inputs) -> CoreOutput
     requires { ⌜ Usable (inputsOf inputs) ⌝ }
-    ensures { λ r. ⌜ r ≡ toldFrame (decoded core (inputsOf inputs)) ⌝ }
+    ensures { λ r. ⌜ r ≡ coreOutput (coreResult core (inputsOf inputs)) ⌝ }
 {
     let lsfs = inputs.lsfs;
     let lsp = spectral::lsf_to_lsp(lsfs);
@@ -258,6 +258,6 @@ pub fn decode(core: Core, inputs: Inputs) -> Frame
         sharpening,
         history,
     };
-    let ran = run(opened, rows, inputs);
-    Frame { rows, run: ran }
+    let subframes = decode_subframes(opened, rows, inputs);
+    CoreOutput { rows, subframes }
 }

@@ -8,40 +8,40 @@ use lib.Signed.{_≤ℤ_}
 use Rattle.lists.specs.Lists.{Every}
 use Rattle.basicop.specs.Ops.{Quotient}
 use Rattle.synthesis.specs.Whole.{wholeSamples, retried}
-use Rattle.decoder.specs.Subframe.{Fed, Subframe}
-use Rattle.decoder.specs.Core.{Turn}
+use Rattle.decoder.specs.Subframe.{SynthesisInput, SynthesisResult}
+use Rattle.decoder.specs.Core.{SubframeResult}
 use Rattle.state.specs.declared.State.{State}
 use Rattle.outcome.specs.declared.Outcome.the-variants.{Accepted}
 use Rattle.state.specs.State.{WellFormed, stateOutcome}
 use Rattle.mr74.specs.Frame.{Trace}
 use Rattle.calls.specs.Calls.{Call, traceOf, nextState, runCalls, stateAfter, accepted, anyAccepted, latestFlag}
-use Rattle.demand3.specs.Measure.{Machine, heldSamples, quarters, takesIn, leaves, leavesAll}
+use Rattle.demand3.specs.Measure.{Machine, heldSamples, quarters, takesIn, machineAfterSubframe, machineAfterSubframes}
 
 -- from .. to
 abbrev pub In : ℤ → ℤ → ℤ → Type 0
 In from to x = (from ≤ℤ x) × (x ≤ℤ to)
 
 -- ---- one subframe: d is the definition's, held against the machine m, which is fed f
-pub record AsMeasured (f : Fed) (m : Machine) (d : Subframe) : Type 0 where
+pub record AsMeasured (f : SynthesisInput) (m : Machine) (d : SynthesisResult) : Type 0 where
   -- the row a0..a10, forty of feedback and of first excitation; ten samples of history, 154 past excitations; forty synthesis samples
   pub row : length (f .row) ≡ 11
-  pub fed : (length (f .feedback) ≡ 40) × (length (f .excitation) ≡ 40)
+  pub input : (length (f .feedback) ≡ 40) × (length (f .excitation) ≡ 40)
   pub machine : (length (m .history) ≡ 10) × (length (m .past) ≡ 154)
   pub forty : length (d .samples) ≡ 40
-  -- "A subframe's flag is 1, retried, exactly when document 01's whole-number recurrence, unclamped, on its first excitation leaves 32 signed bits at some step."
+  -- "A subframe's flag is 1, retried, exactly when document 01's whole-number recurrence, unclamped, on its first excitation machineAfterSubframe 32 signed bits at some step."
   pub flag : d .retried ≡ retried 10 (f .row) (f .excitation) (m .history)
   -- "Unretried, its forty synthesis samples are that recurrence's."
   pub samples : d .retried ≡ false → d .samples ≡ wholeSamples 10 (f .row) (f .excitation) (m .history)
-  pub kept : d .retried ≡ false → (d .feedback ≡ f .feedback) × (d .past ≡ takesIn (m .past) (f .feedback))
+  pub unretried : d .retried ≡ false → (d .feedback ≡ f .feedback) × (d .past ≡ takesIn (m .past) (f .feedback))
   -- "Retried, feedback excitation and past were quartered once, rounding down,"
   pub quartered : d .retried ≡ true → (d .feedback ≡ quarters (f .feedback)) × (d .past ≡ takesIn (quarters (m .past)) (quarters (f .feedback)))
   -- "and the samples are the clamped recurrence's on that feedback."
-  pub again : d .retried ≡ true → d .samples ≡ heldSamples (f .row) (d .feedback) (m .history)
+  pub retried-samples : d .retried ≡ true → d .samples ≡ heldSamples (f .row) (d .feedback) (m .history)
 
 -- one after another, each against what the machine's own subframe before it left
-abbrev pub Beside : Machine → List Turn → Type 0
-Beside m [] = Unit {0}
-Beside m (t ∷ ts) = AsMeasured (t .fed) m (t .made) × Beside (leaves (t .fed) m) ts
+abbrev pub SubframesAsMeasured : Machine → List SubframeResult → Type 0
+SubframesAsMeasured m [] = Unit {0}
+SubframesAsMeasured m (t ∷ ts) = AsMeasured (t .input) m (t .synthesis) × SubframesAsMeasured (machineAfterSubframe (t .input) m) ts
 
 -- ---- the machine beside the calls
 -- it has history and past from the list's opening state, once
@@ -49,28 +49,28 @@ abbrev pub opening : State → Machine
 opening s = record { history = s .core .history; past = s .core .past }
 
 -- after a call it has what its own subframes left. They were fed the row, the feedback and the first excitation that the definition works out
-abbrev pub machineAfter : Machine → Trace → Machine
-machineAfter m t = leavesAll (map (λ (u : Turn). u .fed) (t .turns)) m
+abbrev pub machineAfterCall : Machine → Trace → Machine
+machineAfterCall m t = machineAfterSubframes (map (λ (u : SubframeResult). u .input) (t .subframes)) m
 
 -- ---- an accepted call
-pub record InCall (t : Trace) (m : Machine) : Type 0 where
+pub record AcceptedCall (t : Trace) (m : Machine) : Type 0 where
   -- "In each accepted call every postfilter tilt lay in 0..=26214": one a subframe
   pub tilts : (length (t .tilts) ≡ 4) × Every (In (pos 0) (pos 26214)) (t .tilts)
   -- "and no divisor was zero."
   pub divisors : Every (λ (q : Quotient). ¬ (q .divisor ≡ pos 0)) (t .quotients)
   -- the answer's four flags and rows are those of the four subframes
-  pub four : length (t .turns) ≡ 4
-  pub flags : t .flags ≡ map (λ (u : Turn). u .made .retried) (t .turns)
-  pub rows : map (λ (u : Turn). u .fed .row) (t .turns) ≡ t .rows .a ∷ t .rows .b ∷ t .rows .c ∷ t .rows .d ∷ []
+  pub four : length (t .subframes) ≡ 4
+  pub flags : t .flags ≡ map (λ (u : SubframeResult). u .synthesis .retried) (t .subframes)
+  pub rows : map (λ (u : SubframeResult). u .input .row) (t .subframes) ≡ t .rows .a ∷ t .rows .b ∷ t .rows .c ∷ t .rows .d ∷ []
   -- each subframe is as the machine has it
-  pub subframes : Beside m (t .turns)
+  pub subframes : SubframesAsMeasured m (t .subframes)
   -- and the state given back has the history and the past that the machine is left with
-  pub left : opening (t .next) ≡ machineAfter m t
+  pub next : opening (t .next) ≡ machineAfterCall m t
 
--- ---- a refused call, on the state s: "A refused call has no subframe and leaves both."
-pub record Refused (s : State) (t : Trace) (m : Machine) : Type 0 where
-  pub none : t .turns ≡ []
-  pub machine : machineAfter m t ≡ m
+-- ---- a refused call, on the state s: "A refused call has no subframe and machineAfterSubframe both."
+pub record RefusedCall (s : State) (t : Trace) (m : Machine) : Type 0 where
+  pub none : t .subframes ≡ []
+  pub machine : machineAfterCall m t ≡ m
   pub state : t .next ≡ s
 
 -- ---- in each call of the list, with the machine as it stood before the call
@@ -78,7 +78,7 @@ abbrev pub EachCall : State → Machine → List Call → Type 0
 EachCall s m [] = Unit {0}
 EachCall s m (c ∷ cs) =
     let t = traceOf s c in
-    (accepted t ≡ true → InCall t m) × ((accepted t ≡ false → Refused s t m) × EachCall (nextState s c) (machineAfter m t) cs)
+    (accepted t ≡ true → AcceptedCall t m) × ((accepted t ≡ false → RefusedCall s t m) × EachCall (nextState s c) (machineAfterCall m t) cs)
 
 -- ---- the claim
 pub record Demand3 (s : State) (cs : List Call) : Type 0 where

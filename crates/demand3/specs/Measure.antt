@@ -10,9 +10,9 @@ use lib.Signed.{ltZ}
 use mir.Syntax.{w32}
 use Rattle.lists.specs.Lists.{at}
 use Rattle.basicop.specs.Ops.{least, most, asr}
-use Rattle.synthesis.specs.Fed.{fed}
+use Rattle.synthesis.specs.Recursion.{recursion}
 use Rattle.synthesis.specs.Whole.{product, wholeSamples, retried}
-use Rattle.decoder.specs.Subframe.{Fed}
+use Rattle.decoder.specs.Subframe.{SynthesisInput}
 
 -- ---- "the same 23 steps, each clamped"
 -- held to the range of 32 bits
@@ -27,7 +27,7 @@ abbrev pub heldSample : List ℤ → ℤ → List ℤ → ℤ
 heldSample a x y = asr (held (held (heldSum a x y 10 *ℤ pos 8) +ℤ pos 32768)) 16
 
 abbrev pub heldSamples : List ℤ → List ℤ → List ℤ → List ℤ
-heldSamples a xs history = drop 10 (fed (heldSample a) xs history)
+heldSamples a xs history = drop 10 (recursion (heldSample a) xs history)
 
 -- each number >> 2
 abbrev pub quarters : List ℤ → List ℤ
@@ -38,8 +38,8 @@ pub record Machine : Type 0 where
   pub history : List ℤ
   pub past : List ℤ
 
--- what it makes of a subframe that is fed a row, feedback and first excitation
-pub record Measured : Type 0 where
+-- what it makes of a subframe that is recursion a row, feedback and first excitation
+pub record Measurement : Type 0 where
   pub retried : Bool
   pub samples : List ℤ
   pub feedback : List ℤ
@@ -49,8 +49,8 @@ pub record Measured : Type 0 where
 abbrev pub takesIn : List ℤ → List ℤ → List ℤ
 takesIn past feedback = drop 40 past ++ feedback
 
-abbrev pub unretried : Fed → Machine → Measured
-unretried f m =
+abbrev pub unretriedMeasurement : SynthesisInput → Machine → Measurement
+unretriedMeasurement f m =
     record {
       retried = false;
       samples = wholeSamples 10 (f .row) (f .excitation) (m .history);
@@ -59,8 +59,8 @@ unretried f m =
     }
 
 -- "feedback and past are each >> 2, and the samples come from the same 23 steps, each clamped, with that feedback as x and the same history"
-abbrev pub again : Fed → Machine → Measured
-again f m =
+abbrev pub retriedMeasurement : SynthesisInput → Machine → Measurement
+retriedMeasurement f m =
     record {
       retried = true;
       samples = heldSamples (f .row) (quarters (f .feedback)) (m .history);
@@ -69,14 +69,14 @@ again f m =
     }
 
 -- "The subframe is retried if any of the 40 × 23 lies outside the signed 32-bit range"
-unfoldable pub measured : Fed → Machine → Measured
-measured f m = cond (retried 10 (f .row) (f .excitation) (m .history)) (again f m) (unretried f m)
+unfoldable pub measurement : SynthesisInput → Machine → Measurement
+measurement f m = cond (retried 10 (f .row) (f .excitation) (m .history)) (retriedMeasurement f m) (unretriedMeasurement f m)
 
 -- "the last ten samples are the next history"
-abbrev pub leaves : Fed → Machine → Machine
-leaves f m = record { history = drop 30 (measured f m .samples); past = measured f m .past }
+abbrev pub machineAfterSubframe : SynthesisInput → Machine → Machine
+machineAfterSubframe f m = record { history = drop 30 (measurement f m .samples); past = measurement f m .past }
 
--- after several subframes; a refused call has none and leaves both
-unfoldable pub leavesAll : List Fed → Machine → Machine
-leavesAll [] m = m
-leavesAll (f ∷ fs) m = leavesAll fs (leaves f m)
+-- after several subframes; a refused call has none and machineAfterSubframe both
+unfoldable pub machineAfterSubframes : List SynthesisInput → Machine → Machine
+machineAfterSubframes [] m = m
+machineAfterSubframes (f ∷ fs) m = machineAfterSubframes fs (machineAfterSubframe f m)

@@ -6,33 +6,33 @@ use mathlib.Core.List.{List, map}
 use lib.Dec.{ltb}
 use lib.IntN.{ℤ}
 use lib.ListN.{length}
-use Rattle.decoder.specs.declared.Frame.{Frame as Core·Frame}
+use Rattle.decoder.specs.declared.CoreOutput.{CoreOutput as Core·Frame}
 use Rattle.decoder.specs.Inputs.{FrameInputs, Usable}
-use Rattle.decoder.specs.Core.{toldFrame}
-use Rattle.decoder.proofs.Results.{Held, core-result}
-use Rattle.postfilter.specs.declared.Frame.{Frame as Post·Frame}
-use Rattle.postfilter.specs.Postfilter.{processed}
+use Rattle.decoder.specs.Core.{coreOutput}
+use Rattle.decoder.proofs.Results.{Held, core-facts}
+use Rattle.postfilter.specs.declared.FilteredFrame.{FilteredFrame as Post·Frame}
+use Rattle.postfilter.specs.Postfilter.{postfilterResult}
 use Rattle.state.specs.declared.State.{State}
 use Rattle.outcome.specs.declared.Outcome.{Outcome}
 use Rattle.outcome.specs.Outcome.{isAccepted}
-use Rattle.mr74.specs.declared.Decoded.{Decoded}
+use Rattle.mr74.specs.declared.FrameOutput.{FrameOutput}
 use Rattle.mr74.specs.declared.FrameAnswer.{FrameAnswer}
 use Rattle.mr74.specs.Sheet.{sheetInputs}
 use Rattle.mr74.specs.Checks.{frameOutcome}
-use Rattle.mr74.specs.Frame.{called, coreOf, frameTrace, frameCall}
-use Rattle.mr74.specs.Inner.{decodedOf, refusal}
+use Rattle.mr74.specs.Frame.{callResult, coreResultOf, frameTrace, frameCall}
+use Rattle.mr74.specs.Inner.{frameOutputOf, refusedAnswer}
 
-pub decoded-are : (inputs : FrameInputs) (s : State) {f : Core·Frame} {q : Post·Frame} {fl : List Bool} → Usable inputs → Held (s .core) → f ≡ toldFrame (coreOf inputs s) → q ≡ processed (s .post) (f .rows) (f .run .samples) .output → fl ≡ map (λ (place : ℕ). ltb place 40) (f .run .places)
-    → _≡_ {A = Decoded} (record { rows = f .rows; flags = fl; samples = q .samples; next = record { core = f .run .next; post = q .memory } }) (decodedOf inputs s)
-unfolding decodedOf
-decoded-are inputs s u h ef eq el = rw (el, eq, ef, core-result (s .core) inputs u h .flags)
+pub decoded-are : (inputs : FrameInputs) (s : State) {f : Core·Frame} {q : Post·Frame} {fl : List Bool} → Usable inputs → Held (s .core) → f ≡ coreOutput (coreResultOf inputs s) → q ≡ postfilterResult (s .post) (f .rows) (f .subframes .samples) .output → fl ≡ map (λ (place : ℕ). ltb place 40) (f .subframes .places)
+    → _≡_ {A = FrameOutput} (record { rows = f .rows; flags = fl; samples = q .samples; next = record { core = f .subframes .next; post = q .memory } }) (frameOutputOf inputs s)
+unfolding frameOutputOf
+decoded-are inputs s u h ef eq el = rw (el, eq, ef, core-facts (s .core) inputs u h .flags)
 
 module _ (sheet : List ℤ) (s : State) (out : List ℤ) where
-  pub answer-accepted : {o : Outcome} {d : Decoded} {lent : List ℤ} → o ≡ frameOutcome sheet s (length out) → isAccepted o ≡ true → d ≡ decodedOf (sheetInputs sheet) s → lent ≡ d .samples
-      → called (record { outcome = o; rows = d .rows; flags = d .flags; next = d .next }) lent ≡ frameCall sheet s out
-  unfolding frameCall frameTrace decodedOf
+  pub answer-accepted : {o : Outcome} {d : FrameOutput} {lent : List ℤ} → o ≡ frameOutcome sheet s (length out) → isAccepted o ≡ true → d ≡ frameOutputOf (sheetInputs sheet) s → lent ≡ d .samples
+      → callResult (record { outcome = o; rows = d .rows; flags = d .flags; next = d .next }) lent ≡ frameCall sheet s out
+  unfolding frameCall frameTrace frameOutputOf
   answer-accepted eo ea ed el = rw (el, ed, ← eo, ea)
 
-  pub answer-refused : {o : Outcome} {r : FrameAnswer} → o ≡ frameOutcome sheet s (length out) → isAccepted o ≡ false → r ≡ refusal o s → called r out ≡ frameCall sheet s out
+  pub answer-refused : {o : Outcome} {r : FrameAnswer} → o ≡ frameOutcome sheet s (length out) → isAccepted o ≡ false → r ≡ refusedAnswer o s → callResult r out ≡ frameCall sheet s out
   unfolding frameCall frameTrace
   answer-refused eo ea er = rw (er, ← eo, ea)

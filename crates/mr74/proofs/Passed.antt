@@ -12,7 +12,7 @@ use Rattle.outcome.specs.Outcome.{isAccepted}
 use Rattle.outcome.proofs.Checks.{both-accept}
 use Rattle.state.specs.declared.State.{State}
 use Rattle.state.specs.State.{stateChecks}
-use Rattle.state.proofs.Checks.{Kept, kept}
+use Rattle.state.proofs.Checks.{InRange, in-range}
 use Rattle.mr74.specs.Checks.{lengthChecks, lsfChecks, pitchChecks, gainChecks, sheetChecks, frameOutcome}
 use Rattle.mr74.specs.Inner.{Ready}
 use Rattle.mr74.proofs.Checks.{lengths-accept, lsfs-accept, pitch-accept, gains-accept}
@@ -21,7 +21,7 @@ pub record Passed (sheet : List ℤ) (s : State) (room : ℕ) : Type 0 where
   pub ready : Ready sheet
   pub lent : room ≡ 160
   pub gains : (k : ℕ) → k < 8 → pos 0 ≤ℤ at sheet (14 + k)
-  pub state : Kept s
+  pub state : InRange s
 
 pub passed : (sheet : List ℤ) (s : State) (room : ℕ) → isAccepted (frameOutcome sheet s room) ≡ true → Passed sheet s room
 unfolding frameOutcome
@@ -43,5 +43,5 @@ passed sheet s room h =
       };
       lent = lengths .1;
       gains = gains-accept sheet (d .1);
-      state = kept s (b .1);
+      state = in-range s (b .1);
     }

@@ -7,8 +7,8 @@ use Rattle.basicop.specs.Ops.{Quotient}
 use Rattle.pitch.specs.Lag.{Lag}
 use Rattle.lpc.specs.declared.Rows.{Rows}
 use Rattle.decoder.specs.Inputs.{SubframeInputs, FrameInputs}
-use Rattle.decoder.specs.Core.{Turn, Decoded, decoded, flagsOf, samplesOf, quotientsOf}
-use Rattle.postfilter.specs.Postfilter.{Processed, processed}
+use Rattle.decoder.specs.Core.{SubframeResult, CoreResult, coreResult, flagsOf, samplesOf, quotientsOf}
+use Rattle.postfilter.specs.Postfilter.{PostfilterResult, postfilterResult}
 use Rattle.state.specs.declared.State.{State}
 use Rattle.outcome.specs.declared.Outcome.{Outcome}
 use Rattle.outcome.specs.Outcome.{isAccepted}
@@ -18,15 +18,15 @@ use Rattle.mr74.specs.Checks.{frameOutcome}
 
 -- ---- a frame, of its inputs and an accepted state
 -- the core takes and gives the core's part of the state alone
-abbrev pub coreOf : FrameInputs → State → Decoded
-coreOf inputs s = decoded (s .core) inputs
+abbrev pub coreResultOf : FrameInputs → State → CoreResult
+coreResultOf inputs s = coreResult (s .core) inputs
 
 -- the postfilter has its own memory, the rows and the synthesis samples
-abbrev pub postOf : FrameInputs → State → Processed
-postOf inputs s = processed (s .post) (coreOf inputs s .rows) (samplesOf (coreOf inputs s .turns))
+abbrev pub postResultOf : FrameInputs → State → PostfilterResult
+postResultOf inputs s = postfilterResult (s .post) (coreResultOf inputs s .rows) (samplesOf (coreResultOf inputs s .subframes))
 
-abbrev pub nextOf : FrameInputs → State → State
-nextOf inputs s = record { core = coreOf inputs s .next; post = postOf inputs s .output .memory }
+abbrev pub nextStateOf : FrameInputs → State → State
+nextStateOf inputs s = record { core = coreResultOf inputs s .next; post = postResultOf inputs s .output .memory }
 
 -- ---- all that document 01 speaks of in a call
 pub record Trace : Type 0 where
@@ -37,30 +37,30 @@ pub record Trace : Type 0 where
   pub lags : List Lag
   -- of each subframe: what its synthesis was fed (row, feedback before any quartering, first excitation), what came of it (flag, place, synthesis samples,
   -- feedback, past), and the core's state after it
-  pub turns : List Turn
+  pub subframes : List SubframeResult
   pub flags : List Bool
   -- of each subframe
   pub tilts : List ℤ
   -- every quotient that was taken, with its divisor
   pub quotients : List Quotient
-  -- the lent output afterwards, and the state given back
+  -- the lent output afterwards, and the state resultOf back
   pub output : List ℤ
   pub next : State
 
 abbrev pub acceptedTrace : Outcome → FrameInputs → State → Trace
 acceptedTrace o inputs s =
-    let c = coreOf inputs s in
-    let p = postOf inputs s in
+    let c = coreResultOf inputs s in
+    let p = postResultOf inputs s in
     record {
       outcome = o;
       rows = c .rows;
       lags = map (λ (p : SubframeInputs). p .lag) (inputs .subframes);
-      turns = c .turns;
-      flags = flagsOf (c .turns);
+      subframes = c .subframes;
+      flags = flagsOf (c .subframes);
       tilts = p .tilts;
-      quotients = quotientsOf (c .turns) ++ p .quotients;
+      quotients = quotientsOf (c .subframes) ++ p .quotients;
       output = p .output .samples;
-      next = nextOf inputs s;
+      next = nextStateOf inputs s;
     }
 
 -- rows all zero, flags 0, no subframe, the output as it was, the state as it came
@@ -68,7 +68,7 @@ abbrev pub zeroRows : Rows
 zeroRows = record { a = replicate 11 (pos 0); b = replicate 11 (pos 0); c = replicate 11 (pos 0); d = replicate 11 (pos 0) }
 
 abbrev pub refusedTrace : Outcome → State → List ℤ → Trace
-refusedTrace o s out = record { outcome = o; rows = zeroRows; lags = []; turns = []; flags = replicate 4 false; tilts = []; quotients = []; output = out; next = s }
+refusedTrace o s out = record { outcome = o; rows = zeroRows; lags = []; subframes = []; flags = replicate 4 false; tilts = []; quotients = []; output = out; next = s }
 
 -- of what a call comes to, its inputs, the state and the lent output
 abbrev pub traceBy : Outcome → FrameInputs → State → List ℤ → Trace
@@ -79,15 +79,15 @@ unfoldable pub frameTrace : List ℤ → State → List ℤ → Trace
 frameTrace sheet s out = traceBy (frameOutcome sheet s (length out)) (sheetInputs sheet) s out
 
 -- ---- what the call gives: its answer, and the lent output afterwards
-pub record Called : Type 0 where
+pub record CallResult : Type 0 where
   pub answer : FrameAnswer
   pub lent : List ℤ
 
-abbrev pub called : FrameAnswer → List ℤ → Called
-called answer lent = record { answer = answer; lent = lent }
+abbrev pub callResult : FrameAnswer → List ℤ → CallResult
+callResult answer lent = record { answer = answer; lent = lent }
 
-abbrev pub given : Trace → Called
-given t = called (record { outcome = t .outcome; rows = t .rows; flags = t .flags; next = t .next }) (t .output)
+abbrev pub resultOf : Trace → CallResult
+resultOf t = callResult (record { outcome = t .outcome; rows = t .rows; flags = t .flags; next = t .next }) (t .output)
 
-unfoldable pub frameCall : List ℤ → State → List ℤ → Called
-frameCall sheet s out = given (frameTrace sheet s out)
+unfoldable pub frameCall : List ℤ → State → List ℤ → CallResult
+frameCall sheet s out = resultOf (frameTrace sheet s out)

@@ -13,10 +13,10 @@ use Rattle.decoder.specs.Core.{flagsOf}
 use Rattle.state.specs.declared.State.{State}
 use Rattle.outcome.specs.declared.Outcome.{Outcome}
 use Rattle.mr74.specs.declared.LagPair.{LagPair}
-use Rattle.mr74.specs.declared.Decoded.{Decoded}
+use Rattle.mr74.specs.declared.FrameOutput.{FrameOutput}
 use Rattle.mr74.specs.declared.FrameAnswer.{FrameAnswer}
 use Rattle.mr74.specs.Sheet.{lsfsOf}
-use Rattle.mr74.specs.Frame.{coreOf, postOf, nextOf, zeroRows}
+use Rattle.mr74.specs.Frame.{coreResultOf, postResultOf, nextStateOf, zeroRows}
 
 -- a sheet that has passed the checks 1, 2 and 3
 pub record Ready (sheet : List ℤ) : Type 0 where
@@ -32,10 +32,10 @@ abbrev pub twoLags : LagPair → List Lag
 twoLags l = lagOf (l .first) ∷ lagOf (l .second) ∷ []
 
 -- what an accepted call gives
-unfoldable pub decodedOf : FrameInputs → State → Decoded
-decodedOf inputs s =
-    record { rows = coreOf inputs s .rows; flags = flagsOf (coreOf inputs s .turns); samples = postOf inputs s .output .samples; next = nextOf inputs s }
+unfoldable pub frameOutputOf : FrameInputs → State → FrameOutput
+frameOutputOf inputs s =
+    record { rows = coreResultOf inputs s .rows; flags = flagsOf (coreResultOf inputs s .subframes); samples = postResultOf inputs s .output .samples; next = nextStateOf inputs s }
 
 -- and a refused one
-abbrev pub refusal : Outcome → State → FrameAnswer
-refusal o s = record { outcome = o; rows = zeroRows; flags = replicate 4 false; next = s }
+abbrev pub refusedAnswer : Outcome → State → FrameAnswer
+refusedAnswer o s = record { outcome = o; rows = zeroRows; flags = replicate 4 false; next = s }

@@ -11,8 +11,8 @@ ghost use Rattle.mr74.specs.Checks.{lengthChecks, lsfChecks, pitchChecks
 ghost use Rattle.decoder.specs.Inputs.{subframeOf, inputsOf, Usable};
 ghost use Rattle.pitch.specs.Lag.{lagOf};
 ghost use Rattle.mr74.specs.Sheet.{lsfsOf, lagPair, innovationOf, subframeAt, sheetInputs};
-ghost use Rattle.mr74.specs.Frame.{called, frameCall};
-ghost use Rattle.mr74.specs.Inner.{Ready, twoLags, decodedOf, refusal};
+ghost use Rattle.mr74.specs.Frame.{callResult, frameCall};
+ghost use Rattle.mr74.specs.Inner.{Ready, twoLags, frameOutputOf, refusedAnswer};
 use basicop::Q1;
 use basicop::Q14;
 use copy::copy;
@@ -214,7 +214,7 @@ fn flags(places: [usize; 4]) -> [bool; 4]
 }
 
 // What an accepted call gives.
-struct Decoded {
+struct FrameOutput {
     rows: Rows,
     flags: [bool; 4],
     samples: [i16; 160],
@@ -222,14 +222,14 @@ struct Decoded {
 }
 
 // The core of the frame, then the postfilter.
-fn decode(state: State, inputs: Inputs) -> Decoded
+fn decode(state: State, inputs: Inputs) -> FrameOutput
     requires { ⌜ Usable (inputsOf inputs) ⌝ }
-    ensures { λ r. ⌜ r ≡ decodedOf (inputsOf inputs) state ⌝ }
+    ensures { λ r. ⌜ r ≡ frameOutputOf (inputsOf inputs) state ⌝ }
 {
     let core = state.core;
     let frame = decoder::decode(core, inputs);
     let rows = frame.rows;
-    let run = frame.run;
+    let run = frame.subframes;
     let synthesis = run.samples;
     let places = run.places;
     let left = run.next;
@@ -237,7 +237,7 @@ fn decode(state: State, inputs: Inputs) -> Decoded
     let filtered = postfilter::process(post, synthesis, rows);
     let samples = filtered.samples;
     let memory = filtered.memory;
-    Decoded {
+    FrameOutput {
         rows,
         flags: flags(places),
         samples,
@@ -250,7 +250,7 @@ fn decode(state: State, inputs: Inputs) -> Decoded
 
 // Rows all zero, flags 0, the state as it came.
 fn refused(outcome: Outcome, state: State) -> FrameAnswer
-    ensures { λ r. ⌜ r ≡ refusal outcome state ⌝ }
+    ensures { λ r. ⌜ r ≡ refusedAnswer outcome state ⌝ }
 {
     FrameAnswer {
         outcome,
@@ -266,7 +266,7 @@ fn refused(outcome: Outcome, state: State) -> FrameAnswer
 }
 
 pub fn frame(sheet: &[i16], state: State, out: &mut [i16]) -> FrameAnswer
-    ensures { λ r. ⌜ called r (now (out .exit)) ≡ frameCall (now (sheet .entry)) state (now (out .entry)) ⌝ }
+    ensures { λ r. ⌜ callResult r (now (out .exit)) ≡ frameCall (now (sheet .entry)) state (now (out .entry)) ⌝ }
 {
     let outcome = check_frame(sheet, state, out.len());
     if outcome.accepted() {

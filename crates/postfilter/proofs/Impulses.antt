@@ -15,7 +15,7 @@ use Rattle.basicop.specs.Ops.{clamp, asr, L-add, L-sub, L-mult, L-shl, round}
 use Rattle.basicop.proofs.Ints.{arithℤ, sub-ℤ-is, mul-is}
 use Rattle.basicop.proofs.Clamp.{clamp-id}
 use Rattle.basicop.proofs.Fits.{L-mult-fits}
-use Rattle.synthesis.specs.Fed.{fed}
+use Rattle.synthesis.specs.Recursion.{recursion}
 use Rattle.synthesis.specs.Synthesis.{acc, sample, samples, firstSamples}
 use Rattle.synthesis.proofs.Fed.{fed-starts}
 use Rattle.synthesis.proofs.Samples.{length-samples, samples-fit}
@@ -46,11 +46,11 @@ module _ (num den : List ℤ) where
 -- ---- the first sample
 -- of any synthesis
 samples-first : (m : ℕ) (a : List ℤ) (x : ℤ) (xs h : List ℤ) → length h ≡ m → at (samples m a (x ∷ xs) h) 0 ≡ sample m a x h
-unfolding fed
+unfolding recursion
 samples-first m a x xs h l =
     let v = sample m a x h in
     let y = h ++ (v ∷ []) in
-    let f = fed (sample m a) xs y in
+    let f = recursion (sample m a) xs y in
     let n : length y ≡ suc m = length-append h (v ∷ []) ∙ rw l (omega arith) in
     getD-drop m f 0 (pos 0)
     ∙ rw (add-zero m) (sym (getD-take (suc m) f m (pos 0) (omega arith)) ∙ rw (rw n at (fed-starts (sample m a) xs y)) (getD-at h v [] (pos 0) m l))

@@ -34,14 +34,14 @@ use Rattle.postfilter.specs.Weight.{numerator, denominator, weighted}
 use Rattle.postfilter.specs.Residual.{residualAt, residual}
 use Rattle.postfilter.specs.Tilt.{tilt}
 use Rattle.postfilter.specs.Preemphasis.{preemphasised}
-use Rattle.postfilter.specs.Postfilter.{Processed, residualOf, resynthesised, filtered, rowAt, part, processNext, processFrom, processed}
+use Rattle.postfilter.specs.Postfilter.{PostfilterResult, residualOf, resynthesised, filterResult, rowAt, part, processNext, processFrom, postfilterResult}
 use Rattle.postfilter.specs.Tilted.{Framed}
 use Rattle.postfilter.proofs.Preemphases.{preemphasised-length}
 use Rattle.postfilter.proofs.Tilts.{tilted}
 
 -- ---- the divisors of a subframe: those of its tilt, and those of agc, which lie in 16384..=32767
-pub divisors : (n : ℕ) → n ≤ 16384 → (m : Postfilter) (a ys : List ℤ) → Every (Divides n) (tilt a .quotients) → Every (Divides n) (filtered m a ys .quotients)
-unfolding filtered
+pub divisors : (n : ℕ) → n ≤ 16384 → (m : Postfilter) (a ys : List ℤ) → Every (Divides n) (tilt a .quotients) → Every (Divides n) (filterResult m a ys .quotients)
+unfolding filterResult
 divisors n h m a ys t =
     let c = agc (m .gain .«previous_gain») ys (resynthesised m a ys) in
     every-append (Divides n) (tilt a .quotients) (c .quotients) t (every-map wide (c .quotients) (agc-divisors (m .gain .«previous_gain») ys (resynthesised m a ys)))
@@ -50,15 +50,15 @@ divisors n h m a ys t =
     wide q d = record { from = ≤ℤ-trans (le-in (omega arith)) (d .from); to = d .to }
 
 -- for every memory, row and samples each lies in 1..=32767; with a first coefficient of 4096 in 512..=32767
-pub divisors-any : (m : Postfilter) (a ys : List ℤ) → Every (Divides 1) (filtered m a ys .quotients)
+pub divisors-any : (m : Postfilter) (a ys : List ℤ) → Every (Divides 1) (filterResult m a ys .quotients)
 divisors-any m a ys = divisors 1 (lit≤ tt) m a ys (tilted a .divisors)
 
-pub divisors-row : (m : Postfilter) (a ys : List ℤ) → at a 0 ≡ pos 4096 → Every (Divides 512) (filtered m a ys .quotients)
+pub divisors-row : (m : Postfilter) (a ys : List ℤ) → at a 0 ≡ pos 4096 → Every (Divides 512) (filterResult m a ys .quotients)
 divisors-row m a ys e = divisors 512 (lit≤ tt) m a ys (tilted a .divisors-row e)
 
 -- the tilt is that of the row
-pub tilt-is : (m : Postfilter) (a ys : List ℤ) → filtered m a ys .tilt ≡ tilt a .value
-unfolding filtered
+pub tilt-is : (m : Postfilter) (a ys : List ℤ) → filterResult m a ys .tilt ≡ tilt a .value
+unfolding filterResult
 tilt-is m a ys = refl
 
 -- ---- lengths and ranges
@@ -71,16 +71,16 @@ pub record Held (m : Postfilter) : Type 0 where
 
 -- of a subframe: forty samples, and a memory whose gain is at most 32748
 pub record Kept (m : Postfilter) (a ys : List ℤ) : Type 0 where
-  pub forty : Words 40 (filtered m a ys .output .samples)
-  pub memory : Held (filtered m a ys .output .memory)
-  pub gain : filtered m a ys .output .memory .gain .«previous_gain» ≤ℤ pos 32748
+  pub forty : Words 40 (filterResult m a ys .output .samples)
+  pub memory : Held (filterResult m a ys .output .memory)
+  pub gain : filterResult m a ys .output .memory .gain .«previous_gain» ≤ℤ pos 32748
 
 residual-words : (a x : List ℤ) → Words 40 (residual a x)
 unfolding residual
 residual-words a x = words-tab (λ (n : ℕ). residualAt a x (n + 10)) 40 (λ k. round-fits _)
 
 pub kept : (m : Postfilter) (a ys : List ℤ) → Held m → Words 40 ys → Kept m a ys
-unfolding filtered
+unfolding filterResult
 kept m a ys h w =
     let out = resynthesised m a ys in
     let fed = preemphasised (tilt a .value) (m .«previous_residual») (residualOf m a ys) in
@@ -121,7 +121,7 @@ framed n h m rows ys d (suc k) =
     let s = iter (processNext rows ys) k (processFrom m) in
     let r = framed n h m rows ys d k in
     let a = rowAt rows k in
-    let f = filtered (s .output .memory) a (part ys k) in
+    let f = filterResult (s .output .memory) a (part ys k) in
     record {
       tilts = length-append (s .tilts) (f .tilt ∷ []) ∙ rw (r .tilts) (add-one k);
       range = every-append _ (s .tilts) (f .tilt ∷ []) (r .range) (rw (tilt-is (s .output .memory) a (part ys k)) ((tilted a .from, tilted a .to), tt));
@@ -129,22 +129,22 @@ framed n h m rows ys d (suc k) =
     }
 
 -- for every memory, rows and samples: four tilts, and each divisor in 1..=32767
-pub framed-any : (m : Postfilter) (rows : Rows) (ys : List ℤ) → Framed 1 4 (processed m rows ys)
-unfolding processed
+pub framed-any : (m : Postfilter) (rows : Rows) (ys : List ℤ) → Framed 1 4 (postfilterResult m rows ys)
+unfolding postfilterResult
 framed-any m rows ys = framed 1 (lit≤ tt) m rows ys (λ k. tilted (rowAt rows k) .divisors) 4
 
 -- with rows that begin with 4096 (`rows-first`): each divisor in 512..=32767
-pub framed-rows : (m : Postfilter) (rows : Rows) (ys : List ℤ) → ((k : ℕ) → at (rowAt rows k) 0 ≡ pos 4096) → Framed 512 4 (processed m rows ys)
-unfolding processed
+pub framed-rows : (m : Postfilter) (rows : Rows) (ys : List ℤ) → ((k : ℕ) → at (rowAt rows k) 0 ≡ pos 4096) → Framed 512 4 (postfilterResult m rows ys)
+unfolding postfilterResult
 framed-rows m rows ys e = framed 512 (lit≤ tt) m rows ys (λ k. tilted (rowAt rows k) .divisors-row (e k)) 4
 
 -- the tilts are those of the four rows
-pub tilts-are : (m : Postfilter) (rows : Rows) (ys : List ℤ) → processed m rows ys .tilts ≡ tilt (rows .a) .value ∷ tilt (rows .b) .value ∷ tilt (rows .c) .value ∷ tilt (rows .d) .value ∷ []
-unfolding processed iter filtered
+pub tilts-are : (m : Postfilter) (rows : Rows) (ys : List ℤ) → postfilterResult m rows ys .tilts ≡ tilt (rows .a) .value ∷ tilt (rows .b) .value ∷ tilt (rows .c) .value ∷ tilt (rows .d) .value ∷ []
+unfolding postfilterResult iter filterResult
 tilts-are m rows ys = refl
 
 -- lengths and ranges: 40 samples a subframe, and the memory held; its gain at most 32748 after one subframe or more
-pub record Carried (k : ℕ) (s : Processed) : Type 0 where
+pub record Carried (k : ℕ) (s : PostfilterResult) : Type 0 where
   pub samples : Words (40 * k) (s .output .samples)
   pub memory : Held (s .output .memory)
   pub gain : 1 ≤ k → s .output .memory .gain .«previous_gain» ≤ℤ pos 32748
@@ -159,7 +159,7 @@ carried m rows ys h w (suc k) l =
     let s = iter (processNext rows ys) k (processFrom m) in
     let r = carried m rows ys h w k (omega arith) in
     let a = rowAt rows k in
-    let f = filtered (s .output .memory) a (part ys k) in
+    let f = filterResult (s .output .memory) a (part ys k) in
     let q = kept (s .output .memory) a (part ys k) (r .memory) (part-words ys k l w) in
     record {
       samples = rw (mul-suc 40 k) (words-append (s .output .samples) (f .output .samples) (r .samples) (q .forty));
@@ -167,6 +167,6 @@ carried m rows ys h w (suc k) l =
       gain = λ p. q .gain;
     }
 
-pub processed-kept : (m : Postfilter) (rows : Rows) (ys : List ℤ) → Held m → Words 160 ys → Carried 4 (processed m rows ys)
-unfolding processed
+pub processed-kept : (m : Postfilter) (rows : Rows) (ys : List ℤ) → Held m → Words 160 ys → Carried 4 (postfilterResult m rows ys)
+unfolding postfilterResult
 processed-kept m rows ys h w = carried m rows ys h w 4 (lit≤ tt)

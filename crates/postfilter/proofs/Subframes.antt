@@ -8,12 +8,12 @@ use Rattle.synthesis.specs.Synthesis as synthesis
 use Rattle.energy.specs.declared.Controlled.{Controlled}
 use Rattle.energy.specs.Gain.{agc}
 use Rattle.postfilter.specs.declared.Postfilter.{Postfilter}
-use Rattle.postfilter.specs.declared.Subframe.{Subframe}
+use Rattle.postfilter.specs.declared.FilteredSubframe.{FilteredSubframe}
 use Rattle.postfilter.specs.Weight.{numerator, denominator, weighted}
 use Rattle.postfilter.specs.Residual.{residual}
 use Rattle.postfilter.specs.Tilt.{impulse, tiltOf, tilt}
 use Rattle.postfilter.specs.Preemphasis.{preemphasised}
-use Rattle.postfilter.specs.Postfilter.{filtered}
+use Rattle.postfilter.specs.Postfilter.{filterResult}
 
 -- as the code goes: s the second synthesis, g the gain control
 pub filtered-by :
@@ -26,6 +26,6 @@ pub filtered-by :
     → s ≡ synthesis.filtered den fed (m .«synthesis_history»)
     → g ≡ agc (m .gain .«previous_gain») ys (s .samples) .value
     → h ≡ synthesis.newest 10 ys
-    → _≡_ {A = Subframe} (record { samples = g .samples; memory = record { «input_history» = h; «synthesis_history» = s .history; «previous_residual» = last; gain = g .control } }) (filtered m a ys .output)
-unfolding filtered tilt synthesis.filtered
+    → _≡_ {A = FilteredSubframe} (record { samples = g .samples; memory = record { «input_history» = h; «synthesis_history» = s .history; «previous_residual» = last; gain = g .control } }) (filterResult m a ys .output)
+unfolding filterResult tilt synthesis.filtered
 filtered-by m a ys en ed et ef el es eg eh = rw (eg, es, ef, el, et, en, ed, eh)

@@ -13,13 +13,13 @@ use Rattle.postfilter.specs.Residual.{residual}
 use Rattle.postfilter.specs.Tilt.{tilt}
 use Rattle.postfilter.specs.Preemphasis.{preemphasised}
 use Rattle.postfilter.specs.declared.Postfilter.{Postfilter}
-use Rattle.postfilter.specs.declared.Subframe.{Subframe}
-use Rattle.postfilter.specs.declared.Frame.{Frame}
+use Rattle.postfilter.specs.declared.FilteredSubframe.{FilteredSubframe}
+use Rattle.postfilter.specs.declared.FilteredFrame.{FilteredFrame}
 
 -- ---- a subframe
 -- output: the samples and the next memory
-pub record Filtered : Type 0 where
-  pub output : Subframe
+pub record FilterResult : Type 0 where
+  pub output : FilteredSubframe
   pub tilt : ℤ
   pub quotients : List Quotient
 
@@ -33,8 +33,8 @@ resynthesised m a ys =
     samples 10 (weighted a denominator) (preemphasised (tilt a .value) (m .«previous_residual») (residualOf m a ys)) (m .«synthesis_history»)
 
 -- agc against the subframe's synthesis samples
-unfoldable pub filtered : Postfilter → List ℤ → List ℤ → Filtered
-filtered m a ys =
+unfoldable pub filterResult : Postfilter → List ℤ → List ℤ → FilterResult
+filterResult m a ys =
     let out = resynthesised m a ys in
     let c = agc (m .gain .«previous_gain») ys out in
     record {
@@ -52,8 +52,8 @@ filtered m a ys =
     }
 
 -- ---- a frame
-pub record Processed : Type 0 where
-  pub output : Frame
+pub record PostfilterResult : Type 0 where
+  pub output : FilteredFrame
   pub tilts : List ℤ
   pub quotients : List Quotient
 
@@ -68,18 +68,18 @@ abbrev pub part : List ℤ → ℕ → List ℤ
 part ys k = take 40 (drop (40 * k) ys)
 
 -- one subframe more
-abbrev pub processNext : Rows → List ℤ → ℕ → Processed → Processed
+abbrev pub processNext : Rows → List ℤ → ℕ → PostfilterResult → PostfilterResult
 processNext rows ys k s =
-    let f = filtered (s .output .memory) (rowAt rows k) (part ys k) in
+    let f = filterResult (s .output .memory) (rowAt rows k) (part ys k) in
     record {
       output = record { samples = s .output .samples ++ f .output .samples; memory = f .output .memory };
       tilts = s .tilts ++ (f .tilt ∷ []);
       quotients = s .quotients ++ f .quotients;
     }
 
-abbrev pub processFrom : Postfilter → Processed
+abbrev pub processFrom : Postfilter → PostfilterResult
 processFrom m = record { output = record { samples = []; memory = m }; tilts = []; quotients = [] }
 
 -- of the memory m, the four rows and the frame's 160 synthesis samples ys
-unfoldable pub processed : Postfilter → Rows → List ℤ → Processed
-processed m rows ys = iter (processNext rows ys) 4 (processFrom m)
+unfoldable pub postfilterResult : Postfilter → Rows → List ℤ → PostfilterResult
+postfilterResult m rows ys = iter (processNext rows ys) 4 (processFrom m)

@@ -10,7 +10,7 @@ use Rattle.lists.specs.Lists.{at, Every}
 use Rattle.basicop.specs.Ops.{mult}
 use Rattle.basicop.specs.Divided.{Divides}
 use Rattle.postfilter.specs.Tilt.{r0, r1, response, tilt}
-use Rattle.postfilter.specs.Postfilter.{Processed}
+use Rattle.postfilter.specs.Postfilter.{PostfilterResult}
 
 -- of a row
 pub record Tilted (a : List ℤ) : Type 0 where
@@ -24,7 +24,7 @@ pub record Tilted (a : List ℤ) : Type 0 where
   pub divisors-row : at a 0 ≡ pos 4096 → Every (Divides 512) (tilt a .quotients)
 
 -- after k subframes: as many tilts, each in 0..=26214, and every divisor, those of agc among them, from n on
-pub record Framed (n k : ℕ) (s : Processed) : Type 0 where
+pub record Framed (n k : ℕ) (s : PostfilterResult) : Type 0 where
   pub tilts : length (s .tilts) ≡ k
   pub range : Every (λ (t : ℤ). (pos 0 ≤ℤ t) × (t ≤ℤ pos 26214)) (s .tilts)
   pub divisors : Every (Divides n) (s .quotients)

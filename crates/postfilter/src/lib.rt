@@ -11,7 +11,7 @@ ghost use Rattle.postfilter.specs.Weight.{weighted};
 ghost use Rattle.postfilter.specs.Residual.{residualSum, residual};
 ghost use Rattle.postfilter.specs.Tilt.{impulse, correlation, tiltOf};
 ghost use Rattle.postfilter.specs.Preemphasis.{emphasised, preemphasised};
-ghost use Rattle.postfilter.specs.Postfilter.{filtered, rowAt, processed};
+ghost use Rattle.postfilter.specs.Postfilter.{filterResult, rowAt, postfilterResult};
 use basicop::Q15;
 use basicop::div_s;
 use basicop::extract_h;
@@ -36,13 +36,13 @@ pub struct Postfilter {
 }
 
 // The samples of a subframe, and the memory after it.
-pub struct Subframe {
+pub struct FilteredSubframe {
     pub samples: [i16; 40],
     pub memory: Postfilter,
 }
 
 // The samples of a frame, and the memory after it.
-pub struct Frame {
+pub struct FilteredFrame {
     pub samples: [i16; 160],
     pub memory: Postfilter,
 }
@@ -188,8 +188,8 @@ fn excitation(
 }
 
 // One subframe, from its row and its synthesis samples.
-fn filter(memory: Postfilter, coefficients: [i16; 11], samples: [i16; 40]) -> Subframe
-    ensures { λ r. ⌜ r ≡ filtered memory coefficients samples .output ⌝ }
+fn filter(memory: Postfilter, coefficients: [i16; 11], samples: [i16; 40]) -> FilteredSubframe
+    ensures { λ r. ⌜ r ≡ filterResult memory coefficients samples .output ⌝ }
 {
     let numerators = NUMERATOR;
     let denominators = DENOMINATOR;
@@ -210,7 +210,7 @@ fn filter(memory: Postfilter, coefficients: [i16; 11], samples: [i16; 40]) -> Su
     let scaled = controlled.samples;
     let control = controlled.control;
     let input_history = synthesis::newest(samples);
-    Subframe {
+    FilteredSubframe {
         samples: scaled,
         memory: Postfilter {
             input_history,
@@ -234,8 +234,8 @@ fn row_of(rows: Rows, subframe: usize) -> [i16; 11]
     }
 }
 
-pub fn process(memory: Postfilter, samples: [i16; 160], rows: Rows) -> Frame
-    ensures { λ r. ⌜ r ≡ processed memory rows samples .output ⌝ }
+pub fn process(memory: Postfilter, samples: [i16; 160], rows: Rows) -> FilteredFrame
+    ensures { λ r. ⌜ r ≡ postfilterResult memory rows samples .output ⌝ }
 {
     let mut out = samples;
     let mut carried = memory;
@@ -250,7 +250,7 @@ pub fn process(memory: Postfilter, samples: [i16; 160], rows: Rows) -> Frame
         let left = filtered.memory;
         carried = left;
     }
-    Frame {
+    FilteredFrame {
         samples: out,
         memory: carried,
     }

@@ -17,7 +17,7 @@ use Rattle.state.specs.State.{WellFormed, stateChecks, stateOutcome}
 use Rattle.state.specs.Layout.{numbersOf, stateOf}
 use Rattle.state.proofs.Numbers.{state-of-numbers, numbers-words}
 use Rattle.coding.specs.Bytes.{words, bytesOf}
-use Rattle.record.specs.Record.{endOf, distanceOf, noteLength, numbersIn, trailerChecks, bodyChecks, byteChecks, recordOutcome, told, readCall, trailerBytes, encoded}
+use Rattle.record.specs.Record.{endOf, distanceOf, noteLength, numbersIn, trailerChecks, bodyChecks, byteChecks, recordOutcome, readResult, readCall, trailerBytes, encoded}
 use Rattle.record.specs.Handover.{ReadBack, SameOutcome, SameRest}
 use Rattle.coding.proofs.Bytes.{words-back}
 use Rattle.record.proofs.Trailers.{distance-is}
@@ -85,11 +85,11 @@ module _ (s : State) (w : WellFormed s) (note : List ℕ) where
   unfolding recordOutcome stateOutcome
   outcome-same = sym (passed (byteChecks b) (stateChecks (stateOf (numbersIn b))) tt bytes-right) ∙ ap (λ (t : State). firstMet (stateChecks t)) state-is
 
-  back : stateOutcome s ≡ Accepted → readCall b ≡ told (record { outcome = Accepted; state = s }) note
+  back : stateOutcome s ≡ Accepted → readCall b ≡ readResult (record { outcome = Accepted; state = s }) note
   unfolding readCall
   back a =
       rw (outcome-same ∙ a)
-      (λ i. told (record { outcome = Accepted; state = state-is i }) ((ap₂ take note-is parts ∙ take-at note (body ++ trailerBytes) (length note) refl) i))
+      (λ i. readResult (record { outcome = Accepted; state = state-is i }) ((ap₂ take note-is parts ∙ take-at note (body ++ trailerBytes) (length note) refl) i))
 
 pub read-back : ReadBack
 read-back s w a note = back s w note a

@@ -15,7 +15,7 @@ use Rattle.state.specs.State.{stateChecks}
 use Rattle.state.specs.Layout.{stateOf}
 use Rattle.coding.specs.Bytes.{words}
 use Rattle.record.specs.declared.Answer.{Answer}
-use Rattle.record.specs.Record.{endOf, distanceOf, noteLength, noteOf, numbersIn, sizeChecks, trailerChecks, bodyChecks, byteChecks, recordOutcome, zeroState, refusedAnswer, told, readCall}
+use Rattle.record.specs.Record.{endOf, distanceOf, noteLength, noteOf, numbersIn, sizeChecks, trailerChecks, bodyChecks, byteChecks, recordOutcome, zeroState, refusedAnswer, readResult, readCall}
 use Rattle.record.proofs.Trailers.{distance-is}
 
 -- the body, as the code lends it
@@ -94,7 +94,7 @@ module _ (b : List ℕ) where
           let k : length b - 402 ≡ noteLength b = omega (arith, d) in
           rw (← e, y) (ap (λ (n : ℕ). take n b) k)
 
-outcome-of : (t : Bool) (o : Outcome) (r s : State) (m n : List ℕ) → cond t (told (record { outcome = o; state = r }) m) (told (record { outcome = o; state = s }) n) .answer .outcome ≡ o
+outcome-of : (t : Bool) (o : Outcome) (r s : State) (m n : List ℕ) → cond t (readResult (record { outcome = o; state = r }) m) (readResult (record { outcome = o; state = s }) n) .answer .outcome ≡ o
 outcome-of true o r s m n = refl
 outcome-of false o r s m n = refl
 

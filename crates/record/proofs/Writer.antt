@@ -1,4 +1,4 @@
--- A record is written part by part, and the writer's definition, case by case. Assumes nothing.
+-- A record is writeResult part by part, and the writer's definition, case by case. Assumes nothing.
 use mathlib.Core.Path.{_≡_, refl, ap, _∙_}
 use mathlib.Core.Bool.{true, false}
 use mathlib.Core.List.{List, [], _∷_, _++_}
@@ -18,7 +18,7 @@ use Rattle.state.specs.Layout.{numbersOf}
 use Rattle.coding.specs.Bytes.{bytesOf}
 use Rattle.lists.proofs.Put.{Laid, laid-none, laid-more, laid-done}
 use Rattle.coding.proofs.Laid.{bytes-length}
-use Rattle.record.specs.Record.{trailerBytes, encoded, roomChecks, writeChecks, written, writeCall}
+use Rattle.record.specs.Record.{trailerBytes, encoded, roomChecks, writeChecks, writeResult, writeCall}
 
 -- the first two bytes are set
 tag-set : (out : List ℕ) → length out ≡ 8 → Laid 8 (0x4D ∷ 0x37 ∷ []) (set (set out 0 0x4D) 1 0x37)
@@ -46,11 +46,11 @@ module _ (s : State) (out y₁ y₂ : List ℕ) where
 
 -- ---- the call, of what its outcome is found to be
 module _ (s : State) (out : List ℕ) {o : Outcome} (e : o ≡ firstMet (writeChecks s (length out))) where
-  pub write-accepted : isAccepted o ≡ true → (last : List ℕ) → last ≡ encoded s → written o last ≡ writeCall s out
+  pub write-accepted : isAccepted o ≡ true → (last : List ℕ) → last ≡ encoded s → writeResult o last ≡ writeCall s out
   unfolding writeCall
-  write-accepted y last f = rw (← e, y) (ap (written o) f)
+  write-accepted y last f = rw (← e, y) (ap (writeResult o) f)
 
-  pub write-refused : isAccepted o ≡ false → written o out ≡ writeCall s out
+  pub write-refused : isAccepted o ≡ false → writeResult o out ≡ writeCall s out
   unfolding writeCall
   write-refused n = rw (← e, n)
 

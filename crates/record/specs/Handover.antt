@@ -9,11 +9,11 @@ use Rattle.outcome.specs.Outcome.{isAccepted}
 use Rattle.state.specs.declared.State.{State}
 use Rattle.state.specs.State.{WellFormed, stateOutcome}
 use Rattle.coding.specs.Bytes.{Bytes}
-use Rattle.record.specs.Record.{told, versionOf, readCall, encoded}
+use Rattle.record.specs.Record.{readResult, versionOf, readCall, encoded}
 
 -- what was written is read back, behind any note, with that note
 abbrev pub ReadBack : Type 0
-ReadBack = (s : State) → WellFormed s → stateOutcome s ≡ Accepted → (note : List ℕ) → readCall (note ++ encoded s) ≡ told (record { outcome = Accepted; state = s }) note
+ReadBack = (s : State) → WellFormed s → stateOutcome s ≡ Accepted → (note : List ℕ) → readCall (note ++ encoded s) ≡ readResult (record { outcome = Accepted; state = s }) note
 
 -- the record of a well-formed state, behind any note, is accepted exactly when the checks of the state pass it: it is turned back by the same check
 abbrev pub SameOutcome : Type 0

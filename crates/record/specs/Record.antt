@@ -23,7 +23,7 @@ pub record Trailer : Type 0 where
   pub distance : ℕ
   pub count : ℕ
 
--- the versions that are read; the first is the one that is written
+-- the versions that are read; the first is the one that is writeResult
 abbrev pub current : Trailer
 current = record { version = 1; distance = bodyLength; count = stateCount }
 
@@ -104,20 +104,20 @@ abbrev pub refusedAnswer : Outcome → Answer
 refusedAnswer o = record { outcome = o; state = zeroState }
 
 -- what the reader gives: the answer, and the note
-pub record Told : Type 0 where
+pub record ReadResult : Type 0 where
   pub answer : Answer
   pub note : List ℕ
 
-abbrev pub told : Answer → List ℕ → Told
-told answer note = record { answer = answer; note = note }
+abbrev pub readResult : Answer → List ℕ → ReadResult
+readResult answer note = record { answer = answer; note = note }
 
 -- and an empty note
-unfoldable pub readCall : List ℕ → Told
+unfoldable pub readCall : List ℕ → ReadResult
 readCall b =
     let o = recordOutcome b in
     cond (isAccepted o)
-    (told (record { outcome = o; state = stateOf (numbersIn b) }) (noteOf b))
-    (told (refusedAnswer o) [])
+    (readResult (record { outcome = o; state = stateOf (numbersIn b) }) (noteOf b))
+    (readResult (refusedAnswer o) [])
 
 -- ---- the writer
 abbrev pub trailerBytes : List ℕ
@@ -140,14 +140,14 @@ abbrev pub writeChecks : State → ℕ → List Check
 writeChecks s room = roomChecks room ++ stateChecks s
 
 -- the outcome, and the lent bytes afterwards
-pub record Written : Type 0 where
+pub record WriteResult : Type 0 where
   pub outcome : Outcome
   pub lent : List ℕ
 
-abbrev pub written : Outcome → List ℕ → Written
-written outcome lent = record { outcome = outcome; lent = lent }
+abbrev pub writeResult : Outcome → List ℕ → WriteResult
+writeResult outcome lent = record { outcome = outcome; lent = lent }
 
-unfoldable pub writeCall : State → List ℕ → Written
+unfoldable pub writeCall : State → List ℕ → WriteResult
 writeCall s out =
     let o = firstMet (writeChecks s (length out)) in
-    cond (isAccepted o) (written o (encoded s)) (written o out)
+    cond (isAccepted o) (writeResult o (encoded s)) (writeResult o out)

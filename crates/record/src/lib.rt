@@ -3,7 +3,7 @@ ghost use mathlib.Core.Path.{_≡_};
 ghost use lib.ListN.{length};
 ghost use denote.Ref.{ptr};
 ghost use Rattle.outcome.specs.Checks.{firstMet};
-ghost use Rattle.record.specs.Record.{sizeChecks, trailerChecks, bodyChecks, byteChecks, refusedAnswer, readCall, told, trailerBytes, encoded, roomChecks, writeChecks, written, writeCall};
+ghost use Rattle.record.specs.Record.{sizeChecks, trailerChecks, bodyChecks, byteChecks, refusedAnswer, readCall, readResult, trailerBytes, encoded, roomChecks, writeChecks, writeResult, writeCall};
 use basicop::Q14;
 use decoder::Core;
 use energy::GainControl;
@@ -146,7 +146,7 @@ pub fn note(bytes: &[u8]) -> &[u8]
 
 // Reads a record. The note is the part of the lent bytes before the body, not a copy.
 pub fn read<'a>(bytes: &'a [u8]) -> Reading<'a>
-    ensures { λ r. ⌜ (told (r .answer) (now (r .note)) ≡ readCall (now (bytes .entry))) × (ptr (r .note) ≡ ptr (bytes .entry)) ⌝ }
+    ensures { λ r. ⌜ (readResult (r .answer) (now (r .note)) ≡ readCall (now (bytes .entry))) × (ptr (r .note) ≡ ptr (bytes .entry)) ⌝ }
 {
     let answer = answer_of(bytes);
     let note = note(bytes);
@@ -195,7 +195,7 @@ fn check_write(state: State, room: usize) -> Outcome
 
 // Writes the record of a state, without a note.
 pub fn write(state: State, out: &mut [u8]) -> Outcome
-    ensures { λ r. ⌜ written r (now (out .exit)) ≡ writeCall state (now (out .entry)) ⌝ }
+    ensures { λ r. ⌜ writeResult r (now (out .exit)) ≡ writeCall state (now (out .entry)) ⌝ }
 {
     let outcome = check_write(state, out.len());
     if outcome.accepted() {

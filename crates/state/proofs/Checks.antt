@@ -11,13 +11,13 @@ use Rattle.outcome.proofs.Checks.{Placed, none-placed, none-met}
 use Rattle.state.specs.declared.State.{State}
 use Rattle.state.specs.State.{stateChecks, stateOutcome}
 
-pub record Kept (s : State) : Type 0 where
+pub record InRange (s : State) : Type 0 where
   pub from : pos 0 ≤ℤ s .core .sharpening .0
   pub to : s .core .sharpening .0 ≤ℤ pos 13017
   pub gain : pos 0 ≤ℤ s .post .gain .«previous_gain»
 
-pub kept : (s : State) → isAccepted (firstMet (stateChecks s)) ≡ true → Kept s
-kept s h =
+pub in-range : (s : State) → isAccepted (firstMet (stateChecks s)) ≡ true → InRange s
+in-range s h =
     let u = none-met (stateChecks s) tt h in
     let sharpening = s .core .sharpening .0 in
     record {
@@ -27,9 +27,9 @@ kept s h =
     }
 
 -- and such a state is accepted
-pub kept-accepted : (s : State) → Kept s → stateOutcome s ≡ Accepted
+pub in-range-accepted : (s : State) → InRange s → stateOutcome s ≡ Accepted
 unfolding stateOutcome firstMet
-kept-accepted s k = rw (no-less (s .core .sharpening .0) (pos 0) (k .from), no-less (pos 13017) (s .core .sharpening .0) (k .to), no-less (s .post .gain .«previous_gain») (pos 0) (k .gain))
+in-range-accepted s k = rw (no-less (s .core .sharpening .0) (pos 0) (k .from), no-less (pos 13017) (s .core .sharpening .0) (k .to), no-less (s .post .gain .«previous_gain») (pos 0) (k .gain))
 
 pub state-placed : (s : State) → Placed (stateChecks s)
 state-placed s = none-placed (stateChecks s) tt

@@ -9,7 +9,7 @@ use lib.ListN.{length, take, drop}
 use mir.Syntax.{w32}
 use Rattle.lists.specs.Lists.{at}
 use Rattle.basicop.specs.Ops.{asr, clamp, L-mult, L-sub, L-shl, L-add}
-use Rattle.synthesis.specs.Fed.{outside, fed, leaves}
+use Rattle.synthesis.specs.Recursion.{outside, recursion, someOutside}
 use Rattle.synthesis.specs.Synthesis.{acc, accs, shifted, unheld, sample, samples}
 use Rattle.synthesis.specs.Whole.{product, sum, sums, wholes, whole, last, wholeSamples, retriedAt}
 use Rattle.synthesis.specs.Agree.{Agree}
@@ -17,21 +17,21 @@ use Rattle.synthesis.proofs.Flags.{or-same, inside-clamp, leaves-one, l
 use Rattle.synthesis.proofs.Fed.{fed-starts, cut, at-same, any-same, fed-same, until-same}
 
 -- two numbers more after numbers that agree: v only where u lies inside
-steps-same : (us us′ : List ℤ) (u v u′ v′ : ℤ) → leaves us′ ≡ leaves us → (leaves us ≡ false → u′ ≡ u) → (leaves us ≡ false → outside u ≡ false → v′ ≡ v) → leaves (us′ ++ (u′ ∷ v′ ∷ [])) ≡ leaves (us ++ (u ∷ v ∷ []))
+steps-same : (us us′ : List ℤ) (u v u′ v′ : ℤ) → someOutside us′ ≡ someOutside us → (someOutside us ≡ false → u′ ≡ u) → (someOutside us ≡ false → outside u ≡ false → v′ ≡ v) → someOutside (us′ ++ (u′ ∷ v′ ∷ [])) ≡ someOutside (us ++ (u ∷ v ∷ []))
 steps-same us us′ u v u′ v′ e f g =
     rw (leaves-two us′ u′ v′, leaves-two us u v)
-    (or-same (leaves us′) (leaves us) _ _ e (λ i. or-same (outside u′) (outside u) _ _ (ap outside (f i)) (λ j. ap outside (g i j))))
+    (or-same (someOutside us′) (someOutside us) _ _ e (λ i. or-same (outside u′) (outside u) _ _ (ap outside (f i)) (λ j. ap outside (g i j))))
 
 -- ---- one sample
 module _ (a : List ℤ) (x : ℤ) (y : List ℤ) where
-  pub acc-same : (k : ℕ) → leaves (sums a x y k) ≡ false → acc a x y k ≡ sum a x y k
+  pub acc-same : (k : ℕ) → someOutside (sums a x y k) ≡ false → acc a x y k ≡ sum a x y k
   unfolding acc sum sums L-mult L-sub
   acc-same zero e = rw (*ℤ-comm x (at a 0)) (inside-clamp (pos 2 *ℤ (at a 0 *ℤ x)) (sym (leaves-one (pos 2 *ℤ (at a 0 *ℤ x))) ∙ e))
   acc-same (suc k) e =
       let n = two-none (sums a x y k) (product a y (suc k)) (sum a x y (suc k)) e in
       rw (acc-same k (n .0), inside-clamp (product a y (suc k)) (n .1 .0)) (inside-clamp (sum a x y k -ℤ product a y (suc k)) (n .1 .1))
 
-  accs-same : (k : ℕ) → leaves (accs a x y k) ≡ leaves (sums a x y k)
+  accs-same : (k : ℕ) → someOutside (accs a x y k) ≡ someOutside (sums a x y k)
   unfolding accs sum sums L-mult
   accs-same zero = rw (*ℤ-comm x (at a 0))
   accs-same (suc k) =
@@ -41,7 +41,7 @@ module _ (a : List ℤ) (x : ℤ) (y : List ℤ) where
       (λ e i. rw (acc-same k e, inside-clamp (product a y (suc k)) i))
 
   module _ (m : ℕ) where
-    pub unheld-same : leaves (unheld m a x y) ≡ leaves (wholes m a x y)
+    pub unheld-same : someOutside (unheld m a x y) ≡ someOutside (wholes m a x y)
     unfolding L-shl
     unheld-same =
         steps-same (sums a x y m) (accs a x y m) (sum a x y m *ℤ pos 8) (last m a x y) (acc a x y m *ℤ pos 8) (shifted m a x y +ℤ pos 32768)
@@ -49,7 +49,7 @@ module _ (a : List ℤ) (x : ℤ) (y : List ℤ) where
         (λ e. rw (acc-same m e))
         (λ e i. rw (acc-same m e, inside-clamp (sum a x y m *ℤ pos 8) i))
 
-    pub sample-same : leaves (wholes m a x y) ≡ false → sample m a x y ≡ whole m a x y
+    pub sample-same : someOutside (wholes m a x y) ≡ false → sample m a x y ≡ whole m a x y
     unfolding L-shl L-add
     sample-same e =
         let n = two-none (sums a x y m) (sum a x y m *ℤ pos 8) (last m a x y) e in
@@ -60,8 +60,8 @@ module _ (m : ℕ) (a xs h : List ℤ) where
   before-same : length h ≡ m → take (retriedAt m a xs h) (samples m a xs h) ≡ take (retriedAt m a xs h) (wholeSamples m a xs h)
   before-same l =
       let n = retriedAt m a xs h in
-      let s = fed (sample m a) xs h in
-      let w = fed (whole m a) xs h in
+      let s = recursion (sample m a) xs h in
+      let w = recursion (whole m a) xs h in
       let e = until-same (whole m a) (sample m a) (wholes m a) (unheld m a) (λ x y. unheld-same a x y m) (λ x y. sample-same a x y m) xs h in
       sym (cut m n s h (rw l at (fed-starts (sample m a) xs h)) l) ∙ ap (drop m) (rw l at e) ∙ cut m n w h (rw l at (fed-starts (whole m a) xs h)) l
 

@@ -15,7 +15,7 @@ use mir.Val.{SFits}
 use Rattle.basicop.specs.Ops.{clamp, least, most}
 use Rattle.basicop.proofs.Clamp.{clamp-mid, clamp-fits}
 use Rattle.basicop.proofs.Tests.{or-left, or-right}
-use Rattle.synthesis.specs.Fed.{outside, leaves, leavesAny, leavesAt}
+use Rattle.synthesis.specs.Recursion.{outside, someOutside, someListOutside, firstListOutside}
 
 -- ---- two flags
 -- the second matters only where the first is down
@@ -43,64 +43,64 @@ pub clamp-inside : (z : ℤ) → clamp w32 z ≡ z → outside z ≡ false
 clamp-inside z e = fits-inside z (subst (SFits w32) e (clamp-fits w32 z))
 
 -- ---- one list
-pub leaves-append : (us vs : List ℤ) → leaves (us ++ vs) ≡ (leaves us || leaves vs)
-unfolding leaves
+pub leaves-append : (us vs : List ℤ) → someOutside (us ++ vs) ≡ (someOutside us || someOutside vs)
+unfolding someOutside
 leaves-append [] vs = refl
-leaves-append (u ∷ us) vs = rw (leaves-append us vs) (sym (or-assoc (outside u) (leaves us) (leaves vs)))
+leaves-append (u ∷ us) vs = rw (leaves-append us vs) (sym (or-assoc (outside u) (someOutside us) (someOutside vs)))
 
-pub leaves-one : (u : ℤ) → leaves (u ∷ []) ≡ outside u
-unfolding leaves
+pub leaves-one : (u : ℤ) → someOutside (u ∷ []) ≡ outside u
+unfolding someOutside
 leaves-one u = or-false (outside u)
 
 -- two numbers more
 module _ (us : List ℤ) (u v : ℤ) where
-  pub leaves-two : leaves (us ++ (u ∷ v ∷ [])) ≡ (leaves us || (outside u || outside v))
-  unfolding leaves
+  pub leaves-two : someOutside (us ++ (u ∷ v ∷ [])) ≡ (someOutside us || (outside u || outside v))
+  unfolding someOutside
   leaves-two = rw (leaves-append us (u ∷ v ∷ []), or-false (outside v))
 
-  pub two-none : leaves (us ++ (u ∷ v ∷ [])) ≡ false → (leaves us ≡ false) × ((outside u ≡ false) × (outside v ≡ false))
+  pub two-none : someOutside (us ++ (u ∷ v ∷ [])) ≡ false → (someOutside us ≡ false) × ((outside u ≡ false) × (outside v ≡ false))
   two-none e =
-      let f : (leaves us || (outside u || outside v)) ≡ false = sym leaves-two ∙ e in
-      let g = or-right (leaves us) (outside u || outside v) f in
-      (or-left (leaves us) (outside u || outside v) f, (or-left (outside u) (outside v) g, or-right (outside u) (outside v) g))
+      let f : (someOutside us || (outside u || outside v)) ≡ false = sym leaves-two ∙ e in
+      let g = or-right (someOutside us) (outside u || outside v) f in
+      (or-left (someOutside us) (outside u || outside v) f, (or-left (outside u) (outside v) g, or-right (outside u) (outside v) g))
 
 -- ---- a list of lists
-pub any-append : (us vs : List (List ℤ)) → leavesAny (us ++ vs) ≡ (leavesAny us || leavesAny vs)
-unfolding leavesAny
+pub any-append : (us vs : List (List ℤ)) → someListOutside (us ++ vs) ≡ (someListOutside us || someListOutside vs)
+unfolding someListOutside
 any-append [] vs = refl
-any-append (u ∷ us) vs = rw (any-append us vs) (sym (or-assoc (leaves u) (leavesAny us) (leavesAny vs)))
+any-append (u ∷ us) vs = rw (any-append us vs) (sym (or-assoc (someOutside u) (someListOutside us) (someListOutside vs)))
 
 -- the place in lists of which the first ones have none
-pub at-append : (us vs : List (List ℤ)) → leavesAny us ≡ false → leavesAt (us ++ vs) ≡ length us + leavesAt vs
-unfolding leavesAny leavesAt
-at-append [] vs e = sym (zero-add (leavesAt vs))
-at-append (u ∷ us) vs e = rw (or-left (leaves u) (leavesAny us) e, at-append us vs (or-right (leaves u) (leavesAny us) e)) (sym (suc-add (length us) (leavesAt vs)))
+pub at-append : (us vs : List (List ℤ)) → someListOutside us ≡ false → firstListOutside (us ++ vs) ≡ length us + firstListOutside vs
+unfolding someListOutside firstListOutside
+at-append [] vs e = sym (zero-add (firstListOutside vs))
+at-append (u ∷ us) vs e = rw (or-left (someOutside u) (someListOutside us) e, at-append us vs (or-right (someOutside u) (someListOutside us) e)) (sym (suc-add (length us) (firstListOutside vs)))
 
-pub at-none : (us : List (List ℤ)) → leavesAny us ≡ false → leavesAt us ≡ length us
-unfolding leavesAny leavesAt
+pub at-none : (us : List (List ℤ)) → someListOutside us ≡ false → firstListOutside us ≡ length us
+unfolding someListOutside firstListOutside
 at-none [] e = refl
-at-none (u ∷ us) e = rw (or-left (leaves u) (leavesAny us) e, at-none us (or-right (leaves u) (leavesAny us) e))
+at-none (u ∷ us) e = rw (or-left (someOutside u) (someListOutside us) e, at-none us (or-right (someOutside u) (someListOutside us) e))
 
-pub at-here : (u : List ℤ) (us : List (List ℤ)) → leaves u ≡ true → leavesAt (u ∷ us) ≡ 0
-unfolding leavesAt
+pub at-here : (u : List ℤ) (us : List (List ℤ)) → someOutside u ≡ true → firstListOutside (u ∷ us) ≡ 0
+unfolding firstListOutside
 at-here u us e = rw e
 
 -- it is at most the count
-pub at-most : (us : List (List ℤ)) → leavesAt us ≤ length us
-unfolding leavesAt
+pub at-most : (us : List (List ℤ)) → firstListOutside us ≤ length us
+unfolding firstListOutside
 at-most [] = omega arith
-at-most (u ∷ us) = go (leaves u) (at-most us)
+at-most (u ∷ us) = go (someOutside u) (at-most us)
   where
-    go : (b : Bool) → leavesAt us ≤ length us → cond b 0 (suc (leavesAt us)) ≤ suc (length us)
+    go : (b : Bool) → firstListOutside us ≤ length us → cond b 0 (suc (firstListOutside us)) ≤ suc (length us)
     go true h = omega arith
     go false h = omega arith
 
 -- and less where some list has one
-pub any-by-at : (us : List (List ℤ)) → leavesAny us ≡ ltb (leavesAt us) (length us)
-unfolding leavesAny leavesAt
+pub any-by-at : (us : List (List ℤ)) → someListOutside us ≡ ltb (firstListOutside us) (length us)
+unfolding someListOutside firstListOutside
 any-by-at [] = refl
-any-by-at (u ∷ us) = go (leaves u) (any-by-at us)
+any-by-at (u ∷ us) = go (someOutside u) (any-by-at us)
   where
-    go : (b : Bool) → leavesAny us ≡ ltb (leavesAt us) (length us) → (b || leavesAny us) ≡ ltb (cond b 0 (suc (leavesAt us))) (suc (length us))
+    go : (b : Bool) → someListOutside us ≡ ltb (firstListOutside us) (length us) → (b || someListOutside us) ≡ ltb (cond b 0 (suc (firstListOutside us))) (suc (length us))
     go true e = sym (lt-ltb 0 (suc (length us)) (omega arith))
-    go false e = rw (compare·suc-suc (suc (leavesAt us)) (length us)) e
+    go false e = rw (compare·suc-suc (suc (firstListOutside us)) (length us)) e

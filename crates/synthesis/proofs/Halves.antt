@@ -11,7 +11,7 @@ use mir.Syntax.{w64}
 use mir.Val.{SFits}
 use Rattle.basicop.proofs.Ints.{eq-in, sfits-by, add-is, sub-ℤ-is, mul-is}
 use Rattle.basicop.proofs.Range.{natAbs-is, natAbs-sub}
-use Rattle.synthesis.specs.Fed.{outside}
+use Rattle.synthesis.specs.Recursion.{outside}
 use Rattle.synthesis.proofs.Flags.{inside-fits, fits-inside}
 
 pub sub-fits : (s p : ℤ) → natAbs s ≤ 1073741824 → natAbs p ≤ 1073741824 → SFits w64 (s -ℤ p)

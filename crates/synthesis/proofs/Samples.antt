@@ -15,7 +15,7 @@ use Rattle.lists.specs.Lists.{at}
 use Rattle.basicop.specs.Words.{Words}
 use Rattle.basicop.proofs.Fits.{round-fits}
 use Rattle.basicop.proofs.Words.{zero-fits, words-drop}
-use Rattle.synthesis.specs.Fed.{fed}
+use Rattle.synthesis.specs.Recursion.{recursion}
 use Rattle.synthesis.specs.Synthesis.{accs, unheld, unhelds, sample, samples, overflowed, overflowedAt, firstSamples, shifted, previewed, newest}
 use Rattle.synthesis.specs.Whole.{sums, wholes, whole, wholeSamples}
 use Rattle.synthesis.proofs.Flags.{any-by-at, at-most}
@@ -41,10 +41,10 @@ length-unheld a x y = length-append (accs a x y 10) _ ∙ rw (length-accs a x y 
 module _ (m : ℕ) (a xs h : List ℤ) where
   -- ---- a sample for each number of the excitation
   pub length-samples : length h ≡ m → length (samples m a xs h) ≡ length xs
-  length-samples l = length-drop m (fed (sample m a) xs h) ∙ rw (length-fed (sample m a) xs h) (omega (arith, l))
+  length-samples l = length-drop m (recursion (sample m a) xs h) ∙ rw (length-fed (sample m a) xs h) (omega (arith, l))
 
   pub length-wholeSamples : length h ≡ m → length (wholeSamples m a xs h) ≡ length xs
-  length-wholeSamples l = length-drop m (fed (whole m a) xs h) ∙ rw (length-fed (whole m a) xs h) (omega (arith, l))
+  length-wholeSamples l = length-drop m (recursion (whole m a) xs h) ∙ rw (length-fed (whole m a) xs h) (omega (arith, l))
 
   -- ---- a step clamped where the first sample in which one did is before the end
   pub overflowed-by-at : overflowed m a xs h ≡ ltb (overflowedAt m a xs h) (length xs)
@@ -57,10 +57,10 @@ module _ (m : ℕ) (a xs h : List ℤ) where
 pub samples-take : (n m : ℕ) (a xs h : List ℤ) → length h ≡ m → n ≤ length xs → samples m a (take n xs) h ≡ take n (samples m a xs h)
 samples-take n m a xs h l e =
     let make = sample m a in
-    let z : fed make xs h ≡ fed make (drop n xs) (fed make (take n xs) h) = sym (ap (λ (u : List ℤ). fed make u h) (take-append-drop n xs)) ∙ fed-append make (take n xs) (drop n xs) h in
-    let k : length (fed make (take n xs) h) ≡ m + n = length-fed make (take n xs) h ∙ rw (length-take-le n xs e, l) in
-    let f : take (m + n) (fed make xs h) ≡ fed make (take n xs) h = rw (← k, z) (fed-starts make (drop n xs) (fed make (take n xs) h)) in
-    ap (drop m) (sym f) ∙ cut m n (fed make xs h) h (rw l at (fed-starts make xs h)) l
+    let z : recursion make xs h ≡ recursion make (drop n xs) (recursion make (take n xs) h) = sym (ap (λ (u : List ℤ). recursion make u h) (take-append-drop n xs)) ∙ fed-append make (take n xs) (drop n xs) h in
+    let k : length (recursion make (take n xs) h) ≡ m + n = length-fed make (take n xs) h ∙ rw (length-take-le n xs e, l) in
+    let f : take (m + n) (recursion make xs h) ≡ recursion make (take n xs) h = rw (← k, z) (fed-starts make (drop n xs) (recursion make (take n xs) h)) in
+    ap (drop m) (sym f) ∙ cut m n (recursion make xs h) h (rw l at (fed-starts make xs h)) l
 
 -- ---- the samples for the whole excitation
 pub firstSamples-all : (n m : ℕ) (a xs h : List ℤ) → length xs ≤ n → firstSamples n m a xs h ≡ samples m a xs h

@@ -16,7 +16,7 @@ use Rattle.basicop.specs.Ops.{L-mult, L-msu}
 use Rattle.basicop.proofs.Fits.{L-mult-fits, L-sub-fits}
 use Rattle.basicop.proofs.Ints.{sfits-by}
 use Rattle.basicop.proofs.Range.{natAbs-is, natAbs-sub}
-use Rattle.synthesis.specs.Fed.{outside, ago, leaves}
+use Rattle.synthesis.specs.Recursion.{outside, ago, someOutside}
 use Rattle.synthesis.specs.Synthesis.{acc}
 use Rattle.synthesis.specs.Whole.{product, sum, sums}
 use Rattle.synthesis.specs.Inner.{weight, Halved}
@@ -61,7 +61,7 @@ acc-fits a x y (suc k) = L-sub-fits (acc a x y k) (L-mult (at a (suc k)) (ago y 
 
 -- ---- the whole sum at half its size
 -- once a number lies outside one does, however many follow
-leaves-later : (a : List ℤ) (x : ℤ) (y : List ℤ) (k i : ℕ) → leaves (sums a x y k) ≡ true → leaves (sums a x y (i + k)) ≡ true
+leaves-later : (a : List ℤ) (x : ℤ) (y : List ℤ) (k i : ℕ) → someOutside (sums a x y k) ≡ true → someOutside (sums a x y (i + k)) ≡ true
 unfolding sums
 leaves-later a x y k zero e = rw (zero-add k) e
 leaves-later a x y k (suc i) e =
@@ -69,7 +69,7 @@ leaves-later a x y k (suc i) e =
 
 -- half the sum before tap k, as long as none of its numbers but perhaps the first lies outside
 pub record Summed (a : List ℤ) (x : ℤ) (y : List ℤ) (s : ℤ) (o : Bool) (k : ℕ) : Type 0 where
-  pub flag : o ≡ leaves (sums a x y (k - 1))
+  pub flag : o ≡ someOutside (sums a x y (k - 1))
   pub is : pos 2 *ℤ s ≡ sum a x y (k - 1)
   pub size : natAbs s ≤ 1073741824
 
@@ -86,7 +86,7 @@ module _ {a : List ℤ} {x : ℤ} {y : List ℤ} {s s′ v p : ℤ} {o : Bool} {
   unfolding sum
   sum-is = rw es (double-sub s p ∙ rw (r .is, product-is, next k h, this k h))
 
-  flag-is : leaves (sums a x y (k + 1 - 1)) ≡ (o || (outside (pos 2 *ℤ p) || outside (pos 2 *ℤ s′)))
+  flag-is : someOutside (sums a x y (k + 1 - 1)) ≡ (o || (outside (pos 2 *ℤ p) || outside (pos 2 *ℤ s′)))
   unfolding sums
   flag-is =
       rw (sum-is, product-is, r .flag, next k h, this k h) (leaves-two (sums a x y (k - 1)) (product a y k) (sum a x y k))

@@ -6,7 +6,7 @@ use lib.IntN.{ℤ, pos}
 use lib.ListN.{replicate}
 use Rattle.lists.specs.Lists.{minus}
 use Rattle.basicop.specs.Ops.{clamp, asr, L-mult, L-sub, L-shl, L-add}
-use Rattle.synthesis.specs.Fed.{outside, fed, numbersOf, leaves, leavesAny, leavesAt}
+use Rattle.synthesis.specs.Recursion.{outside, recursion, stepNumbers, someOutside, someListOutside, firstListOutside}
 use Rattle.synthesis.specs.Synthesis.{acc, accs, overflowed, overflowedAt}
 use Rattle.synthesis.specs.Whole.{retriedAt}
 use Rattle.synthesis.proofs.Agree.{agree}
@@ -16,20 +16,20 @@ row = pos 4096 ∷ minus 4096 ∷ replicate 9 (pos 0)
 
 -- excitation 32767, then zeros: no overflow
 pub still : overflowedAt 10 row (pos 32767 ∷ replicate 39 (pos 0)) (replicate 10 (pos 0)) ≡ 40
-unfolding acc accs fed numbersOf leaves leavesAt outside L-mult L-sub L-shl L-add clamp asr
+unfolding acc accs recursion stepNumbers someOutside firstListOutside outside L-mult L-sub L-shl L-add clamp asr
 still = refl
 
 pub still-flag : overflowed 10 row (pos 32767 ∷ replicate 39 (pos 0)) (replicate 10 (pos 0)) ≡ false
-unfolding acc accs fed numbersOf leaves leavesAny outside L-mult L-sub L-shl L-add clamp asr
+unfolding acc accs recursion stepNumbers someOutside someListOutside outside L-mult L-sub L-shl L-add clamp asr
 still-flag = refl
 
 -- 32767, 1, then zeros: overflow, in the second sample
 pub over : overflowedAt 10 row (pos 32767 ∷ pos 1 ∷ replicate 38 (pos 0)) (replicate 10 (pos 0)) ≡ 1
-unfolding acc accs fed numbersOf leaves leavesAt outside L-mult L-sub L-shl L-add clamp asr
+unfolding acc accs recursion stepNumbers someOutside firstListOutside outside L-mult L-sub L-shl L-add clamp asr
 over = refl
 
 pub over-flag : overflowed 10 row (pos 32767 ∷ pos 1 ∷ replicate 38 (pos 0)) (replicate 10 (pos 0)) ≡ true
-unfolding acc accs fed numbersOf leaves leavesAny outside L-mult L-sub L-shl L-add clamp asr
+unfolding acc accs recursion stepNumbers someOutside someListOutside outside L-mult L-sub L-shl L-add clamp asr
 over-flag = refl
 
 -- the same of the whole numbers

@@ -7,7 +7,7 @@ use lib.IntN.{ℤ, pos, natAbs, _+ℤ_, _*ℤ_}
 use Rattle.lists.specs.Lists.{at}
 use Rattle.basicop.specs.Ops.{asr}
 use Rattle.basicop.specs.Inner.{sizes}
-use Rattle.synthesis.specs.Fed.{outside, leaves}
+use Rattle.synthesis.specs.Recursion.{outside, someOutside}
 use Rattle.synthesis.specs.Whole.{sum, sums}
 
 -- the weight of a row: |a0| + .. + |a10|
@@ -16,7 +16,7 @@ weight a = sizes (at a) 11
 
 -- whether a number up to the sum lies outside, and half the sum where none does
 pub record Halved (a : List ℤ) (x : ℤ) (y : List ℤ) (k : ℕ) (half : ℤ) (out : Bool) : Type 0 where
-  pub flag : out ≡ leaves (sums a x y k)
+  pub flag : out ≡ someOutside (sums a x y k)
   pub is : out ≡ false → pos 2 *ℤ half ≡ sum a x y k
   pub size : natAbs half ≤ 1073741824
 

@@ -1,4 +1,4 @@
-pub mod Fed
+pub mod Recursion
 pub mod Synthesis
 pub mod Whole
 pub mod Agree

@@ -7,7 +7,7 @@ use lib.IntN.{ℤ, pos, _+ℤ_, _-ℤ_, _*ℤ_}
 use lib.ListN.{length, take, drop, replicate}
 use Rattle.lists.specs.Lists.{at}
 use Rattle.basicop.specs.Ops.{L-mult, L-msu, L-shl, round}
-use Rattle.synthesis.specs.Fed.{ago, fed, numbersOf, leavesAny, leavesAt}
+use Rattle.synthesis.specs.Recursion.{ago, recursion, stepNumbers, someListOutside, firstListOutside}
 use Rattle.synthesis.specs.declared.Output.{Output}
 use Rattle.synthesis.specs.declared.Filtered.{Filtered}
 
@@ -39,18 +39,18 @@ unheld m a x y = accs a x y m ++ ((acc a x y m *ℤ pos 8) ∷ (shifted m a x y 
 
 -- ---- the samples for the excitation xs after the history h, which has m samples
 abbrev pub samples : ℕ → List ℤ → List ℤ → List ℤ → List ℤ
-samples m a xs h = drop m (fed (sample m a) xs h)
+samples m a xs h = drop m (recursion (sample m a) xs h)
 
 abbrev pub unhelds : ℕ → List ℤ → List ℤ → List ℤ → List (List ℤ)
-unhelds m a xs h = numbersOf (sample m a) (unheld m a) xs h
+unhelds m a xs h = stepNumbers (sample m a) (unheld m a) xs h
 
 -- overflow: a step clamped, which is that the number before it lay outside the signed 32-bit range
 abbrev pub overflowed : ℕ → List ℤ → List ℤ → List ℤ → Bool
-overflowed m a xs h = leavesAny (unhelds m a xs h)
+overflowed m a xs h = someListOutside (unhelds m a xs h)
 
 -- the first sample in which a step clamped; the number of samples where none did
 abbrev pub overflowedAt : ℕ → List ℤ → List ℤ → List ℤ → ℕ
-overflowedAt m a xs h = leavesAt (unhelds m a xs h)
+overflowedAt m a xs h = firstListOutside (unhelds m a xs h)
 
 -- the last m samples: the next history
 abbrev pub newest : ℕ → List ℤ → List ℤ

@@ -7,7 +7,7 @@ use lib.IntN.{ℤ, pos, _+ℤ_, _-ℤ_, _*ℤ_}
 use lib.ListN.{drop}
 use Rattle.lists.specs.Lists.{at}
 use Rattle.basicop.specs.Ops.{asr}
-use Rattle.synthesis.specs.Fed.{ago, fed, numbersOf, leavesAny, leavesAt}
+use Rattle.synthesis.specs.Recursion.{ago, recursion, stepNumbers, someListOutside, firstListOutside}
 
 -- "the product 2 × ak × y(n - k)"
 abbrev pub product : List ℤ → List ℤ → ℕ → ℤ
@@ -41,16 +41,16 @@ whole m a x y = asr (last m a x y) 16
 
 -- y(0), y(1), .. for the excitation xs; "y before 0 is the history" h
 abbrev pub wholeSamples : ℕ → List ℤ → List ℤ → List ℤ → List ℤ
-wholeSamples m a xs h = drop m (fed (whole m a) xs h)
+wholeSamples m a xs h = drop m (recursion (whole m a) xs h)
 
 -- the numbers of all the samples: 40 × 23
 abbrev pub wholeNumbers : ℕ → List ℤ → List ℤ → List ℤ → List (List ℤ)
-wholeNumbers m a xs h = numbersOf (whole m a) (wholes m a) xs h
+wholeNumbers m a xs h = stepNumbers (whole m a) (wholes m a) xs h
 
 -- "The subframe is retried if any of the 40 × 23 lies outside the signed 32-bit range"
 abbrev pub retried : ℕ → List ℤ → List ℤ → List ℤ → Bool
-retried m a xs h = leavesAny (wholeNumbers m a xs h)
+retried m a xs h = someListOutside (wholeNumbers m a xs h)
 
 -- the first sample that has such a number; the number of samples where none has
 abbrev pub retriedAt : ℕ → List ℤ → List ℤ → List ℤ → ℕ
-retriedAt m a xs h = leavesAt (wholeNumbers m a xs h)
+retriedAt m a xs h = firstListOutside (wholeNumbers m a xs h)

@@ -6,7 +6,7 @@ ghost use Prim.Native.Nat.{_*_, _-_, _≤_, _<_};
 ghost use lib.Dec.{ltb};
 ghost use lib.IntN.{pos, natAbs, _*ℤ_};
 ghost use lib.ListN.{length, take, drop, replicate};
-ghost use Rattle.synthesis.specs.Fed.{outside, fed};
+ghost use Rattle.synthesis.specs.Recursion.{outside, recursion};
 ghost use Rattle.synthesis.specs.Synthesis.{acc, sample, firstSamples, overflowedAt, newest, previewed, filtered};
 ghost use Rattle.synthesis.specs.Inner.{weight, Halved, Ended};
 use basicop::l_msu;
@@ -236,7 +236,7 @@ struct Pass {
 
 // Sample by sample, up to the first with a number outside.
 fn first_pass(coefficients: [i16; 11], excitation: [i16; 40], history: [i16; 10]) -> Pass
-    ensures { λ r. ⌜ (r .place ≡ overflowedAt 10 coefficients excitation history) × (r .buf ≡ fed (sample 10 coefficients) (take (r .place) excitation) history ++ replicate (40 - r .place) (pos 0)) ⌝ }
+    ensures { λ r. ⌜ (r .place ≡ overflowedAt 10 coefficients excitation history) × (r .buf ≡ recursion (sample 10 coefficients) (take (r .place) excitation) history ++ replicate (40 - r .place) (pos 0)) ⌝ }
 {
     let plain = light(&coefficients);
     let mut buf = roomed(history);

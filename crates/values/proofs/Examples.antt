@@ -19,16 +19,16 @@ use Rattle.excitation.specs.Excitation.{sharpened, sharpening, feedback}
 use Rattle.energy.specs.Energy.{squares, energy}
 use Rattle.energy.specs.Gain.{energyGain, agc2, controlled, agc}
 use Rattle.energy.specs.Root.{inverseTable, rootScaled, inverseRoot}
-use Rattle.synthesis.specs.Fed.{outside, fed, numbersOf, leaves, leavesAny}
+use Rattle.synthesis.specs.Recursion.{outside, recursion, stepNumbers, someOutside, someListOutside}
 use Rattle.synthesis.specs.Synthesis.{acc, accs}
 use Rattle.decoder.specs.Enhance.{enhanced, firstExcitation}
-use Rattle.decoder.specs.Subframe.{synthesised}
-use Rattle.decoder.specs.Core.{excited, turn, ran, decoded}
+use Rattle.decoder.specs.Subframe.{synthesisResult}
+use Rattle.decoder.specs.Core.{excitations, subframeResult, subframeResults, coreResult}
 use Rattle.postfilter.specs.Weight.{numerator, denominator, weighted}
 use Rattle.postfilter.specs.Residual.{residualSum, residual}
 use Rattle.postfilter.specs.Tilt as tilts
 use Rattle.postfilter.specs.Preemphasis.{preemphasised}
-use Rattle.postfilter.specs.Postfilter.{filtered, processed}
+use Rattle.postfilter.specs.Postfilter.{filterResult, postfilterResult}
 use Rattle.outcome.specs.Checks.{firstMet, firstOutside}
 use Rattle.state.specs.State.{WellFormed, stateOutcome}
 use Rattle.state.specs.Layout.{coreOf, postOf, stateOf}
@@ -61,7 +61,7 @@ silent-well-formed =
     }
 
 seen-is : seen (traceOf silent call) ≡ expected
-unfolding flatMap iter tab clamp asr wrap add sub mult shl L-add L-sub L-mult L-shl L-shr-r L-deposit-h doublings norm-l div-s L-Extract Mpy-32-16 absolute lag-min relative cosine between lspOf raisedAt polynomial rowOf rowsOf inter6 phase start interpolated extended predicted sharpened sharpening feedback squares energy energyGain agc2 inverseTable rootScaled inverseRoot outside fed numbersOf leaves leavesAny acc accs enhanced firstExcitation synthesised excited turn ran decoded firstMet stateOf coreOf postOf firstOutside frameOutcome frameTrace loud silent numerator denominator weighted residualSum residual tilts.impulse tilts.correlation tilts.tiltOf tilts.tilt preemphasised filtered processed agc controlled
+unfolding flatMap iter tab clamp asr wrap add sub mult shl L-add L-sub L-mult L-shl L-shr-r L-deposit-h doublings norm-l div-s L-Extract Mpy-32-16 absolute lag-min relative cosine between lspOf raisedAt polynomial rowOf rowsOf inter6 phase start interpolated extended predicted sharpened sharpening feedback squares energy energyGain agc2 inverseTable rootScaled inverseRoot outside recursion stepNumbers someOutside someListOutside acc accs enhanced firstExcitation synthesisResult excitations subframeResult subframeResults coreResult firstMet stateOf coreOf postOf firstOutside frameOutcome frameTrace loud silent numerator denominator weighted residualSum residual tilts.impulse tilts.correlation tilts.tiltOf tilts.tilt preemphasised filterResult postfilterResult agc controlled
 seen-is = refl
 
 pub example : Example

@@ -5,10 +5,10 @@ use Rattle.pitch.specs.Lag.{absolute, relative, lag-min}
 use Rattle.spectral.specs.Lsp.{cosine, between, lspOf}
 use Rattle.energy.specs.Energy.{squares, energy}
 use Rattle.energy.specs.Root.{inverseTable, rootScaled, inverseRoot}
-use Rattle.synthesis.specs.Fed.{outside, fed, numbersOf, leaves, leavesAt}
+use Rattle.synthesis.specs.Recursion.{outside, recursion, stepNumbers, someOutside, firstListOutside}
 use Rattle.synthesis.specs.Synthesis.{acc, accs}
 use Rattle.values.specs.Starred.{starred, Hold}
 
 pub starred-hold : Hold starred
-unfolding starred absolute relative lag-min lspOf between cosine add sub mult L-add L-mult L-sub L-shl L-shr-r L-deposit-h wrap asr clamp norm-l doublings energy squares inverseRoot rootScaled inverseTable acc accs fed numbersOf leaves leavesAt outside
+unfolding starred absolute relative lag-min lspOf between cosine add sub mult L-add L-mult L-sub L-shl L-shr-r L-deposit-h wrap asr clamp norm-l doublings energy squares inverseRoot rootScaled inverseTable acc accs recursion stepNumbers someOutside firstListOutside outside
 starred-hold = (refl, (refl, (refl, (refl, (refl, (refl, (refl, (refl, (refl, (refl, (refl, (refl, (refl, (refl, (refl, (refl, (refl, (refl, tt))))))))))))))))))

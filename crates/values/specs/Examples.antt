@@ -16,7 +16,7 @@ use Rattle.state.specs.State.{WellFormed, stateOutcome}
 use Rattle.state.specs.Layout.{stateOf}
 use Rattle.mr74.specs.Checks.{frameOutcome}
 use Rattle.mr74.specs.Frame.{Trace}
-use Rattle.calls.specs.Calls.{Call, Frame, traceOf, runCalls, accepted, anyAccepted, latestFlag}
+use Rattle.calls.specs.Calls.{Call, FrameCall, traceOf, runCalls, accepted, anyAccepted, latestFlag}
 
 -- 197 zeros
 unfoldable pub silent : State
@@ -31,11 +31,11 @@ loud =
     ++ replicate 160 (pos 8192)))
 
 abbrev pub call : Call
-call = Frame loud (replicate 160 (pos 0))
+call = FrameCall loud (replicate 160 (pos 0))
 
 -- the call, and after it one with no sheet and no output, which is refused
 abbrev pub calls : List Call
-calls = call ∷ Frame [] [] ∷ []
+calls = call ∷ FrameCall [] [] ∷ []
 
 -- of a call: whether it was accepted, flags, tilts, divisors, and of the state given back sharpening and the newest excitation
 pub record Seen : Type 0 where

@@ -26,8 +26,8 @@ abbrev μ-loop : tie.MeasureT-loop
 top : (c : tie.After-phase-of Inv-loop μ-loop) → c .phase-of .result ≤ 4
 top c = phase-range (c .before .before .args .lag) _ (c .phase-of .ensures)
 
-row : (c : tie.After-phase-of Inv-loop μ-loop) → Row (c .before .rows .result) (c .phase-of .result)
-row c = lag-row (c .before .before .args .lag) _ _ (c .phase-of .ensures) (c .before .rows .ensures)
+row : (c : tie.After-phase-of Inv-loop μ-loop) → Row (c .before .all-taps .result) (c .phase-of .result)
+row c = lag-row (c .before .before .args .lag) _ _ (c .phase-of .ensures) (c .before .all-taps .ensures)
 
 -- the place of the first sample to the left
 range : (c : tie.After-start-of Inv-loop μ-loop) → (9 ≤ c .start-of .result) × (c .start-of .result + 10 < 154)
@@ -65,7 +65,7 @@ loop-again c =
     let p = s .before in
     let n = l .loop .n in
     let f = p .phase-of .result in
-    let taps = p .before .rows .result in
+    let taps = p .before .all-taps .result in
     let b = range s in (
       omega (arith, i .loop-test),
       (

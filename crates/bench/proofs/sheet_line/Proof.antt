@@ -1,6 +1,6 @@
 use mathlib.Core.Path.{ap, _∙_}
 use borrow.Author.Needs.{needs}
-use Rattle.mr74.specs.Frame.{Called, called}
+use Rattle.mr74.specs.Frame.{CallResult, callResult}
 use Rattle.bench.specs.Bench.{answerLine}
 use Rattle.bench.proofs.Answers.{sheet-called}
 use Rattle.bench.proofs.sheet_line.Statement.{statement}
@@ -12,8 +12,8 @@ returns c =
     let f = p .before .before .before in
     let g = f .before .before .before .before in
     let s = g .before .before .before .before in
-    let k = sheet-called (s .args .bytes .now) (s .args .state) (g .fill .last .0) (called (f .frame .result) (f .frame .last .1 .1 .0)) (g .fill .ensures) (f .frame .ensures) in
-    (p .answer-line .ensures .0 ∙ ap (answerLine (s .args .number)) k, (p .answer-line .ensures .1, ap (λ (r : Called). r .answer .next) k))
+    let k = sheet-called (s .args .bytes .now) (s .args .state) (g .fill .last .0) (callResult (f .frame .result) (f .frame .last .1 .1 .0)) (g .fill .ensures) (f .frame .ensures) in
+    (p .answer-line .ensures .0 ∙ ap (answerLine (s .args .number)) k, (p .answer-line .ensures .1, ap (λ (r : CallResult). r .answer .next) k))
 
 pub sheet-line-spec : {M : Type 1} → statement M
 sheet-line-spec =

@@ -8,7 +8,7 @@ use lib.IntN.{ℤ, pos}
 use lib.ListN.{length, take, replicate}
 use Rattle.outcome.specs.Outcome.{isAccepted}
 use borrow.Rule.Slice.PartMut.{putMid}
-use Rattle.mr74.specs.Frame.{Called, called, frameCall}
+use Rattle.mr74.specs.Frame.{CallResult, callResult, frameCall}
 use Rattle.capi.specs.Capi.{sampleCount, outLength, sheetIn, roomOf, roomIn}
 use Rattle.capi.proofs.Buffers.{room-most, room-lent, accepted-room, frame-accepted, frame-refused, whole-lent}
 use Rattle.capi.proofs.frame_out.Statement.{statement}
@@ -20,7 +20,7 @@ room-fits c = rw (c .room .ensures) (room-most (length (now (c .before .before .
 
 -- what the call of the sheet's bytes gives, of a room of zeros
 made : (c : tie.After-frame-in) → let a = c .before .before .before .before .before .args in
-    called (c .frame-in .result) (c .frame-in .last .1 .1 .0) ≡ frameCall (sheetIn (now (a .sheet))) (a .state) (roomIn (now (a .out)))
+    callResult (c .frame-in .result) (c .frame-in .last .1 .1 .0) ≡ frameCall (sheetIn (now (a .sheet))) (a .state) (roomIn (now (a .out)))
 made c =
     let r = c .before .before in
     let a = r .before .before .before .args in
@@ -34,7 +34,7 @@ lent-all : (c : tie.Then1) → length (now (c .before .before .before .before .b
 lent-all c =
     let f = c .before .before .before in
     let a = f .before .before .before .before .before .args in
-    accepted-room (sheetIn (now (a .sheet))) (a .state) (now (a .out)) (rw (ap (λ (x : Called). isAccepted (x .answer .outcome)) (made f)) at (sym (c .before .accepted .ensures) ∙ c .if1 .taken))
+    accepted-room (sheetIn (now (a .sheet))) (a .state) (now (a .out)) (rw (ap (λ (x : CallResult). isAccepted (x .answer .outcome)) (made f)) at (sym (c .before .accepted .ensures) ∙ c .if1 .taken))
 
 samples-are : (c : tie.Then1) → putMid 0 (c .before .before .before .before .before .room .result - 0) (replicate sampleCount (pos 0)) (c .before .before .before .frame-in .last .1 .1 .0) ≡ c .before .before .before .frame-in .last .1 .1 .0
 samples-are c =

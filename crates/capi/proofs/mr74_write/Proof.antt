@@ -1,7 +1,7 @@
 use borrow.Author.Needs.{needs}
 use mathlib.Core.Path.{ap}
 use denote.Ref.{now}
-use Rattle.record.specs.Record.{Written}
+use Rattle.record.specs.Record.{WriteResult}
 use Rattle.capi.proofs.Codes.{write-place}
 use Rattle.capi.proofs.Calls.{write-unfit, write-given}
 use Rattle.capi.proofs.mr74_write.Statement.{statement}
@@ -25,6 +25,6 @@ mr74-write-spec =
     returns
     (λ c κs. search needs)
     (λ c κs. search needs)
-    (λ c κs. let w = c .before .before in let s = w .before .before in let a = s .before .before .before .before .args in rw (ap (λ (x : Written). x .outcome) (w .write .ensures)) (write-place (s .state-in .result) (now (a .bytes))))
+    (λ c κs. let w = c .before .before in let s = w .before .before in let a = s .before .before .before .before .args in rw (ap (λ (x : WriteResult). x .outcome) (w .write .ensures)) (write-place (s .state-in .result) (now (a .bytes))))
     (λ c. search needs)
     returns-2)

@@ -1,7 +1,7 @@
 -- Feedback and first excitation, from prediction, sharpened innovation and gains: excited-is.
 use borrow.Author.Needs.{needs}
 use Rattle.basicop.proofs.Ints.{arithℤ}
-use Rattle.decoder.proofs.Turns.{excited-is}
+use Rattle.decoder.proofs.Subframes.{excited-is}
 use Rattle.decoder.proofs.excite.Statement.{statement}
 use Rattle.decoder.proofs.excite.Tie as tie
 

@@ -6,7 +6,7 @@ use denote.Ref.{now}
 use lib.ListN.{length}
 use Rattle.decoder.specs.Inputs.{FrameInputs, Usable}
 use Rattle.outcome.specs.Outcome.{isAccepted}
-use Rattle.mr74.specs.Inner.{decodedOf}
+use Rattle.mr74.specs.Inner.{frameOutputOf}
 use Rattle.mr74.proofs.Passed.{Passed, passed}
 use Rattle.mr74.proofs.Usable.{usable}
 use Rattle.mr74.proofs.Answers.{answer-accepted, answer-refused}
@@ -39,7 +39,7 @@ returns c =
     let t = d .before .before in
     let v = t .before .before in
     let a = v .before .args in
-    answer-accepted (now (a .sheet)) (a .state) (now (a .out)) (v .check-frame .ensures) (sym (t .before .accepted .ensures) ∙ t .if1 .taken) (d .decode .ensures ∙ ap (λ (i : FrameInputs). decodedOf i (a .state)) (d .before .inputs .ensures)) (k .copy .ensures)
+    answer-accepted (now (a .sheet)) (a .state) (now (a .out)) (v .check-frame .ensures) (sym (t .before .accepted .ensures) ∙ t .if1 .taken) (d .decode .ensures ∙ ap (λ (i : FrameInputs). frameOutputOf i (a .state)) (d .before .inputs .ensures)) (k .copy .ensures)
 
 returns-2 : tie.Need-returns-2
 returns-2 c =

@@ -38,7 +38,7 @@ use denote.Triple.Table.{entered, cited}
 use denote.Triple.Walked.{says, Stays, stay-none-slice, walkOf, goes-none-slice, Walks, ends-at, walked, walk-meets}
 use denote.Exit.{yes}
 use denote.Triple.Clauses.{ensured, lasts}
-use Rattle.record.specs.Record.{told, readCall}
+use Rattle.record.specs.Record.{readResult, readCall}
 use Rattle.record.specs.declared.Answer.{Answer}
 use Rattle.record.specs.declared.Reading.{Reading}
 use Rattle.record.proofs.Answer as AN
@@ -121,7 +121,7 @@ module _ {M : Type 1} (𝓤 : URA M) (H : Heap 𝓤) (A : Atoms 𝓤) (W : Given
       → ent 𝓤 (⋆ 𝓤 H A (‵ (Own n) ∷ (‵ (flft κ q) ⊛ ‵ ftrue) ∷ ‵ (Own s) ∷ ‵ (AN.the-row .own r (w r ∷ [])) ∷ [])) (Post (mach r n))
   exits r n e e′ =
       qed W (‵ (Own n) ∷ (‵ (flft κ q) ⊛ ‵ ftrue) ∷ ‵ (Own s) ∷ ‵ (AN.the-row .own r (w r ∷ [])) ∷ []) ∵
-      suffices ! _ (ends-at 𝓤 H A f.ended stayed (f.clauses 𝓤 H A mem run) W (((κ, tt), (q, tt), tt, (s, tt), (v s ∷ [], tt)), tt) (mach r n) (made r n) (tt, tt) (tt, tt)) $ says ! ((λ i. told (e i) (e′ .0 i)), e′ .1) $
+      suffices ! _ (ends-at 𝓤 H A f.ended stayed (f.clauses 𝓤 H A mem run) W (((κ, tt), (q, tt), tt, (s, tt), (v s ∷ [], tt)), tt) (mach r n) (made r n) (tt, tt) (tt, tt)) $ says ! ((λ i. readResult (e i) (e′ .0 i)), e′ .1) $
       move ! (1 ∷ []) $ frame ! $ nothing ! $ move ! (2 ∷ 0 ∷ []) $ fjoin ! $ frame ! $
       nothing ! $ move ! (1 ∷ 0 ∷ []) $ fjoin ! $ move ! (1 ∷ 0 ∷ []) $ fjoin ! $ by ! (own-shut 𝓤 H A W (T.the-type α) (T′.the-laws α) (r, (n, tt)))
 

@@ -1,5 +1,5 @@
 use mir.Facts.{toZ-ofZ}
-use Rattle.synthesis.specs.Fed.{outside}
+use Rattle.synthesis.specs.Recursion.{outside}
 use Rattle.synthesis.proofs.outside.Statement.{statement}
 use Rattle.synthesis.proofs.outside.Tie as tie
 

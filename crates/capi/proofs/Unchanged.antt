@@ -15,8 +15,8 @@ use Rattle.coding.specs.Bytes.{words, bytesOf, Bytes}
 use Rattle.coding.proofs.Bytes.{bytes-back}
 use Rattle.coding.proofs.Laid.{bytes-length}
 use Rattle.mr74.specs.Checks.{frameOutcome}
-use Rattle.mr74.specs.Frame.{refusedTrace, frameTrace, given, Called, frameCall}
-use Rattle.capi.specs.Capi.{stateLength, fits, codeOf, stateIn, stateBytes, sheetIn, roomIn, outAfter, rowBytes, flagBytes, FrameLeft, frameLeft, frameBytes, Kept}
+use Rattle.mr74.specs.Frame.{refusedTrace, frameTrace, resultOf, CallResult, frameCall}
+use Rattle.capi.specs.Capi.{stateLength, fits, codeOf, stateIn, stateBytes, sheetIn, roomIn, outAfter, rowBytes, flagBytes, FrameReturn, frameReturn, frameBytes, RefusedUnchanged}
 use Rattle.capi.proofs.Codes.{frame-outcome}
 use Rattle.capi.proofs.Calls.{lengths}
 
@@ -33,16 +33,16 @@ same-bytes state l b =
     ap bytesOf (numbers-of-state (words state) k) ∙ back
 
 module _ (sheet state out rows flags : List ℕ) (bytes : Bytes state) where
-  abbrev Same : FrameLeft → Type 0
+  abbrev Same : FrameReturn → Type 0
   Same left = (left .code ≡ 0 → ⊥) → (left .state ≡ state) × (left .out ≡ out)
 
-  abbrev leftBy : Called → FrameLeft
-  leftBy c = frameLeft (codeOf (c .answer .outcome)) (stateBytes (c .answer .next)) (outAfter c out) (rowBytes (c .answer .rows)) (flagBytes (c .answer .flags))
+  abbrev leftBy : CallResult → FrameReturn
+  leftBy c = frameReturn (codeOf (c .answer .outcome)) (stateBytes (c .answer .next)) (outAfter c out) (rowBytes (c .answer .rows)) (flagBytes (c .answer .flags))
 
   abbrev o : Outcome
   o = frameOutcome (sheetIn sheet) (stateIn state) (length (roomIn out))
 
-  refused : isAccepted o ≡ false → frameCall (sheetIn sheet) (stateIn state) (roomIn out) ≡ given (refusedTrace o (stateIn state) (roomIn out))
+  refused : isAccepted o ≡ false → frameCall (sheetIn sheet) (stateIn state) (roomIn out) ≡ resultOf (refusedTrace o (stateIn state) (roomIn out))
   unfolding frameCall frameTrace
   refused e = rw e
 
@@ -55,5 +55,5 @@ module _ (sheet state out rows flags : List ℕ) (bytes : Bytes state) where
   left-so true e = rw e (called-so (lengths (length state) (length rows) (length flags) e .0) (isAccepted o) refl)
   left-so false e = rw e (λ n. (refl, refl))
 
-pub kept : Kept
-kept sheet state out rows flags bytes = left-so sheet state out rows flags bytes _ refl
+pub refused-unchanged : RefusedUnchanged
+refused-unchanged sheet state out rows flags bytes = left-so sheet state out rows flags bytes _ refl

@@ -1,4 +1,4 @@
--- `adaptive::row` meets its contract: the first j taps are those of the phase.
+-- `adaptive::phaseTaps` meets its contract: the first j taps are those of the phase.
 use mathlib.Core.Path.{_∙_}
 use Prim.Native.Nat.{_≤_, _-_}
 use borrow.Author.Needs.{needs}
@@ -6,12 +6,12 @@ use mir.Syntax.{w16}
 use Rattle.lists.proofs.Entries.{length-tab, at-tab}
 use Rattle.lists.proofs.Signed.{got}
 use Rattle.lists.proofs.Fill.{Filled, fill-none, fill-more, fill-whole}
-use Rattle.adaptive.specs.Inner.{tap, row}
-use Rattle.adaptive.proofs.row.Statement.{statement}
-use Rattle.adaptive.proofs.row.Tie as tie
+use Rattle.adaptive.specs.Inner.{tap, phaseTaps}
+use Rattle.adaptive.proofs.phase_taps.Statement.{statement}
+use Rattle.adaptive.proofs.phase_taps.Tie as tie
 
 abbrev Inv-loop : tie.InvT-loop
-Inv-loop table phase r₀ j₀ r j = (j ≤ 20) × Filled 20 20 (row phase) r j
+Inv-loop table phase r₀ j₀ r j = (j ≤ 20) × Filled 20 20 (phaseTaps phase) r j
 
 abbrev μ-loop : tie.MeasureT-loop
 μ-loop table phase r₀ j₀ r j = 20 - j
@@ -28,8 +28,8 @@ loop-again c =
 returns : tie.Need-returns Inv-loop μ-loop
 returns c = fill-whole (c .before .loop .inv .1) (search needs)
 
-pub row-spec : {M : Type 1} → statement M
-row-spec =
+pub phase-taps-spec : {M : Type 1} → statement M
+phase-taps-spec =
     tie.close
     (tie.spec
     Inv-loop

@@ -1,8 +1,8 @@
 -- The four subframes are those of the list: ran-is, from the four steps and the samples joined.
 use borrow.Author.Needs.{needs}
-use Rattle.decoder.proofs.Turns.{ran-is}
-use Rattle.decoder.proofs.run.Statement.{statement}
-use Rattle.decoder.proofs.run.Tie as tie
+use Rattle.decoder.proofs.Subframes.{ran-is}
+use Rattle.decoder.proofs.decode_subframes.Statement.{statement}
+use Rattle.decoder.proofs.decode_subframes.Tie as tie
 
 returns : tie.Need-returns
 returns c =
@@ -11,10 +11,10 @@ returns c =
     let b = t .before .before .before .before in
     let a = b .before .before .before .before in
     let s = a .before .before .before in
-    ran-is (s .args .core) (s .args .rows) (s .args .inputs) (a .turn .ensures) (b .turn2 .ensures) (t .turn3 .ensures) (d .turn4 .ensures) (c .joined .ensures)
+    ran-is (s .args .core) (s .args .rows) (s .args .inputs) (a .decode-subframe .ensures) (b .decode-subframe2 .ensures) (t .decode-subframe3 .ensures) (d .decode-subframe4 .ensures) (c .joined .ensures)
 
-pub run-spec : {M : Type 1} → statement M
-run-spec =
+pub decode-subframes-spec : {M : Type 1} → statement M
+decode-subframes-spec =
     tie.close
     (tie.spec
     (λ c κs. search needs)

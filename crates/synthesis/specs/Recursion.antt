@@ -1,4 +1,4 @@
--- A recursion that is fed its own samples, and the first of its samples at which a number leaves the range of 32 bits:
+-- A recursion that is recursion its own samples, and the first of its samples at which a number someOutside the range of 32 bits:
 -- what both machines of document 01 are written with (Synthesis.antt: clamped steps; Whole.antt: whole numbers).
 use Prim.Native.Nat.{ℕ, suc, _-_}
 use mathlib.Core.Bool.{Bool, false, _||_, cond}
@@ -19,26 +19,26 @@ abbrev pub ago : List ℤ → ℕ → ℤ
 ago y k = at y (length y - k)
 
 -- the samples y, and after them one for each x of xs, which `make` makes from x and all the samples before it
-unfoldable pub fed : (ℤ → List ℤ → ℤ) → List ℤ → List ℤ → List ℤ
-fed make [] y = y
-fed make (x ∷ xs) y = fed make xs (y ++ (make x y ∷ []))
+unfoldable pub recursion : (ℤ → List ℤ → ℤ) → List ℤ → List ℤ → List ℤ
+recursion make [] y = y
+recursion make (x ∷ xs) y = recursion make xs (y ++ (make x y ∷ []))
 
 -- for each of these samples, in order, the list of numbers that `numbers` gives for it
-unfoldable pub numbersOf : (ℤ → List ℤ → ℤ) → (ℤ → List ℤ → List ℤ) → List ℤ → List ℤ → List (List ℤ)
-numbersOf make numbers [] y = []
-numbersOf make numbers (x ∷ xs) y = numbers x y ∷ numbersOf make numbers xs (y ++ (make x y ∷ []))
+unfoldable pub stepNumbers : (ℤ → List ℤ → ℤ) → (ℤ → List ℤ → List ℤ) → List ℤ → List ℤ → List (List ℤ)
+stepNumbers make numbers [] y = []
+stepNumbers make numbers (x ∷ xs) y = numbers x y ∷ stepNumbers make numbers xs (y ++ (make x y ∷ []))
 
 -- some number of the list lies outside
-unfoldable pub leaves : List ℤ → Bool
-leaves [] = false
-leaves (z ∷ zs) = outside z || leaves zs
+unfoldable pub someOutside : List ℤ → Bool
+someOutside [] = false
+someOutside (z ∷ zs) = outside z || someOutside zs
 
 -- some number of some list lies outside
-unfoldable pub leavesAny : List (List ℤ) → Bool
-leavesAny [] = false
-leavesAny (zs ∷ zss) = leaves zs || leavesAny zss
+unfoldable pub someListOutside : List (List ℤ) → Bool
+someListOutside [] = false
+someListOutside (zs ∷ zss) = someOutside zs || someListOutside zss
 
 -- the place of the first list with a number outside, from 0; the count of the lists where there is none
-unfoldable pub leavesAt : List (List ℤ) → ℕ
-leavesAt [] = 0
-leavesAt (zs ∷ zss) = cond (leaves zs) 0 (suc (leavesAt zss))
+unfoldable pub firstListOutside : List (List ℤ) → ℕ
+firstListOutside [] = 0
+firstListOutside (zs ∷ zss) = cond (someOutside zs) 0 (suc (firstListOutside zss))

@@ -5,9 +5,9 @@ use native.Mathlib.Omega.{arith}
 use borrow.Author.Needs.{needs}
 use Rattle.lists.proofs.Entries.{length-tab}
 use Rattle.lists.proofs.Put.{put-front}
-use Rattle.adaptive.specs.Inner.{tap, row}
-use Rattle.adaptive.proofs.with_row.Statement.{statement}
-use Rattle.adaptive.proofs.with_row.Tie as tie
+use Rattle.adaptive.specs.Inner.{tap, phaseTaps}
+use Rattle.adaptive.proofs.with_phase.Statement.{statement}
+use Rattle.adaptive.proofs.with_phase.Tie as tie
 
 returns : tie.Need-returns
 returns c =
@@ -16,10 +16,10 @@ returns c =
     let a = w .before .args in
     let n = 10 * a .phase in
     let e : n + 20 - n ≡ 20 = omega arith in
-    rw (e, k .copy .ensures, w .row .ensures) (put-front n 20 (a .taps) (row (a .phase)) (length-tab (tap (a .phase)) 20) (search needs))
+    rw (e, k .copy .ensures, w .phase-taps .ensures) (put-front n 20 (a .taps) (phaseTaps (a .phase)) (length-tab (tap (a .phase)) 20) (search needs))
 
-pub with-row-spec : {M : Type 1} → statement M
-with-row-spec =
+pub with-phase-spec : {M : Type 1} → statement M
+with-phase-spec =
     tie.close
     (tie.spec
     (λ c. search needs)
