@@ -16,7 +16,7 @@ use Rattle.record.specs.Record.{numbersIn, byteChecks, recordChecks, recordOutc
 use Rattle.record.proofs.Reader.{outcome-is}
 use Rattle.mr74.specs.Checks.{frameOutcome}
 use Rattle.mr74.specs.Frame.{frameTrace, frameCall}
-use Rattle.mr74.proofs.Checks.{outcome-place}
+use Rattle.mr74.proofs.Groups.{outcome-place}
 
 pub frame-outcome : (sheet : List ℤ) (s : State) (out : List ℤ) → frameCall sheet s out .answer .outcome ≡ frameOutcome sheet s (length out)
 unfolding frameCall frameTrace

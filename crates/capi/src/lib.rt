@@ -1,15 +1,14 @@
 // The frame call, the reader and the writer over bytes, exported for C and Rust (c/mr74.h).
 ghost use mathlib.Core.Path.{_≡_};
-ghost use Prim.Native.Nat.{_*_, _≤_, _<_};
-ghost use lib.ListN.{length, take};
+ghost use Prim.Native.Nat.{_<_};
 ghost use Rattle.outcome.specs.Outcome.{placeOf};
-ghost use Rattle.mr74.specs.Frame.{callResult, frameCall};
-ghost use Rattle.coding.specs.Bytes.{bytesOf};
-ghost use Rattle.capi.specs.Capi.{fits, sheetCount, stateLength, rowsLength, flagsLength, codeOf, sheetIn, roomOf, roomIn, outAfter, rowBytes, flagBytes, stateBytes, frameReturn, frameBytes, readReturn, readBytes, writeReturn, writeBytes};
-use lpc::Rows;
-use mr74::FrameAnswer;
+ghost use Rattle.capi.specs.Capi.{fits, codeOf, frameReturn, frameBytes, readReturn, readBytes, writeReturn, writeBytes};
+
+mod frames;
+
+use frames::frame_out;
+use frames::give;
 use outcome::Outcome;
-use state::State;
 
 // How long the buffers are: two bytes for each number, one for each flag.
 const SHEET: usize = 182;
@@ -50,102 +49,6 @@ fn code(outcome: Outcome) -> u32
     let number = outcome.number() as u32;
     let place = outcome.place() as u32;
     number + 256 * place
-}
-
-// ---- the frame call
-// The sheet's numbers, as many as are returned: all, or none where it has another length.
-fn sheet_in(sheet: &[u8], numbers: &mut [i16]) -> usize
-    requires { ⌜ length (now numbers) ≡ sheetCount ⌝ }
-    ensures { λ r. ⌜ (r ≤ sheetCount) × (take r (now (numbers .exit)) ≡ sheetIn (now (sheet .entry))) ⌝ }
-{
-    if sheet.len() != SHEET_BYTES {
-        return 0;
-    }
-    coding::fill(numbers, sheet);
-    SHEET
-}
-
-// The samples that so many bytes have room for: all, or none.
-fn room(bytes: usize) -> usize
-    ensures { λ r. ⌜ r ≡ roomOf bytes ⌝ }
-{
-    if bytes == OUT_BYTES { SAMPLES } else { 0 }
-}
-
-// The call of a sheet's bytes.
-fn frame_in(sheet: &[u8], state: State, samples: &mut [i16]) -> FrameAnswer
-    ensures { λ r. ⌜ callResult r (now (samples .exit)) ≡ frameCall (sheetIn (now (sheet .entry))) state (now (samples .entry)) ⌝ }
-{
-    let mut numbers = [0i16; SHEET];
-    let n = sheet_in(sheet, &mut numbers);
-    mr74::frame(&numbers[0..n], state, samples)
-}
-
-// The same with the samples' bytes.
-fn frame_out(sheet: &[u8], state: State, out: &mut [u8]) -> FrameAnswer
-    ensures { λ r. ⌜ r ≡ frameCall (sheetIn (now (sheet .entry))) state (roomIn (now (out .entry))) .answer ⌝ }
-    ensures { λ _. ⌜ now (out .exit) ≡ outAfter (frameCall (sheetIn (now (sheet .entry))) state (roomIn (now (out .entry)))) (now (out .entry)) ⌝ }
-{
-    let mut samples = [0i16; SAMPLES];
-    let n = room(out.len());
-    let answer = frame_in(sheet, state, &mut samples[0..n]);
-    let outcome = answer.outcome;
-    if outcome.accepted() {
-        coding::put(out, &samples);
-        return answer;
-    }
-    answer
-}
-
-fn write_row(row: [i16; 11], out: &mut [u8])
-    requires { ⌜ length (now out) ≡ 2 * 11 ⌝ }
-    ensures { λ _. ⌜ now (out .exit) ≡ bytesOf row ⌝ }
-{
-    coding::put(out, &row);
-}
-
-// The four rows one after another.
-fn write_rows(rows: Rows, out: &mut [u8])
-    requires { ⌜ length (now out) ≡ rowsLength ⌝ }
-    ensures { λ _. ⌜ now (out .exit) ≡ rowBytes rows ⌝ }
-{
-    let a = rows.a;
-    write_row(a, &mut out[0..ROW_BYTES]);
-    let b = rows.b;
-    write_row(b, &mut out[ROW_BYTES..TWO_ROWS]);
-    let c = rows.c;
-    write_row(c, &mut out[TWO_ROWS..THREE_ROWS]);
-    let d = rows.d;
-    write_row(d, &mut out[THREE_ROWS..ROWS_BYTES]);
-}
-
-// A byte for each flag.
-fn write_flags(flags: [bool; 4], out: &mut [u8])
-    requires { ⌜ length (now out) ≡ flagsLength ⌝ }
-    ensures { λ _. ⌜ now (out .exit) ≡ flagBytes flags ⌝ }
-{
-    for i in 0..FLAGS_BYTES {
-        out[i] = flags[i] as u8;
-    }
-}
-
-// What an answer leaves in what was lent beside the output.
-fn give(answer: FrameAnswer, state: &mut [u8], rows: &mut [u8], flags: &mut [u8]) -> u32
-    requires { ⌜ (length (now state) ≡ stateLength) × ((length (now rows) ≡ rowsLength) × (length (now flags) ≡ flagsLength)) ⌝ }
-    requires { ⌜ placeOf (answer .outcome) < 256 ⌝ }
-    ensures { λ r. ⌜ r ≡ codeOf (answer .outcome) ⌝ }
-    ensures { λ _. ⌜ now (state .exit) ≡ stateBytes (answer .next) ⌝ }
-    ensures { λ _. ⌜ now (rows .exit) ≡ rowBytes (answer .rows) ⌝ }
-    ensures { λ _. ⌜ now (flags .exit) ≡ flagBytes (answer .flags) ⌝ }
-{
-    let next = answer.next;
-    coding::write_body(next, state);
-    let four = answer.rows;
-    write_rows(four, rows);
-    let retried = answer.flags;
-    write_flags(retried, flags);
-    let outcome = answer.outcome;
-    code(outcome)
 }
 
 #[no_mangle]

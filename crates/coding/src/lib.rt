@@ -1,14 +1,28 @@
 // Numbers of 16 bits as bytes, and the body of a record: a state's numbers as bytes, part by part.
 // Not public in document 01's sense: the record's calls, the exported ones and the programs call it, and meet its `requires`.
 ghost use mathlib.Core.Path.{_≡_};
-ghost use Prim.Native.Nat.{_*_};
 ghost use lib.ListN.{length};
-ghost use Rattle.state.specs.Layout.{past, coreOf, coreNumbers, postOf, postNumbers, stateOf, numbersOf};
-ghost use Rattle.coding.specs.Bytes.{signed16, bits16, unsigned, words, bytesOf};
+ghost use Rattle.state.specs.Layout.{coreOf, coreNumbers, postOf, postNumbers, stateOf, numbersOf};
+ghost use Rattle.coding.specs.Bytes.{words, bytesOf};
 ghost use Rattle.coding.specs.Body.{coreLength, postLength, bodyLength};
+
+mod numbers;
+mod pieces;
+
 use basicop::Q14;
 use decoder::Core;
 use energy::GainControl;
+pub use numbers::bits;
+pub use numbers::fill;
+pub use numbers::put;
+pub use numbers::unsigned;
+pub use numbers::word;
+use pieces::one_in;
+use pieces::past_in;
+use pieces::ten_in;
+use pieces::write_one;
+use pieces::write_past;
+use pieces::write_ten;
 use postfilter::Postfilter;
 use state::CORE_NUMBERS;
 use state::HISTORY;
@@ -16,117 +30,6 @@ use state::LSP;
 use state::PAST;
 use state::POST_NUMBERS;
 use state::State;
-
-// ---- numbers of 16 bits as bytes, low byte first
-pub fn unsigned(low: u8, high: u8) -> u16
-    ensures { λ r. ⌜ r ≡ unsigned low high ⌝ }
-{
-    low as u16 + 256 * (high as u16)
-}
-
-// Two bytes as a signed number: n, or n - 65536 from 32768 on, which is the complement of 65535 - n.
-pub fn word(low: u8, high: u8) -> i16
-    ensures { λ r. ⌜ r ≡ signed16 (unsigned low high) ⌝ }
-{
-    let n = unsigned(low, high);
-    if n < 32768 {
-        n as i16
-    } else {
-        !((65535 - n) as i16)
-    }
-}
-
-// The sixteen bits of a signed number.
-pub fn bits(x: i16) -> u16
-    ensures { λ r. ⌜ r ≡ bits16 x ⌝ }
-{
-    if 0 <= x {
-        x as u16
-    } else {
-        65535 - (!x) as u16
-    }
-}
-
-// The numbers of the bytes of src.
-pub fn fill(dst: &mut [i16], src: &[u8])
-    requires { ⌜ length (now src) ≡ 2 * length (now dst) ⌝ }
-    ensures { λ _. ⌜ now (dst .exit) ≡ words (now (src .entry)) ⌝ }
-{
-    let mut i = 0;
-    let mut j = 0;
-    while i < dst.len() {
-        let x = word(src[j], src[j + 1]);
-        dst[i] = x;
-        i += 1;
-        j += 2;
-    }
-}
-
-// The bytes of the numbers of src.
-pub fn put(dst: &mut [u8], src: &[i16])
-    requires { ⌜ length (now dst) ≡ 2 * length (now src) ⌝ }
-    ensures { λ _. ⌜ now (dst .exit) ≡ bytesOf (now (src .entry)) ⌝ }
-{
-    let mut i = 0;
-    let mut j = 0;
-    while i < src.len() {
-        let x = src[i];
-        let n = bits(x);
-        dst[j] = (n % 256) as u8;
-        dst[j + 1] = (n / 256) as u8;
-        i += 1;
-        j += 2;
-    }
-}
-
-// ---- parts of a body, each an array
-fn ten_in(bytes: &[u8]) -> [i16; 10]
-    requires { ⌜ length (now bytes) ≡ 2 * 10 ⌝ }
-    ensures { λ r. ⌜ r ≡ words (now (bytes .entry)) ⌝ }
-{
-    let mut numbers = [0i16; 10];
-    fill(&mut numbers, bytes);
-    numbers
-}
-
-fn past_in(bytes: &[u8]) -> [i16; PAST]
-    requires { ⌜ length (now bytes) ≡ 2 * past .count ⌝ }
-    ensures { λ r. ⌜ r ≡ words (now (bytes .entry)) ⌝ }
-{
-    let mut numbers = [0i16; PAST];
-    fill(&mut numbers, bytes);
-    numbers
-}
-
-fn one_in(bytes: &[u8]) -> [i16; 1]
-    requires { ⌜ length (now bytes) ≡ 2 ⌝ }
-    ensures { λ r. ⌜ r ≡ words (now (bytes .entry)) ⌝ }
-{
-    let mut numbers = [0i16; 1];
-    fill(&mut numbers, bytes);
-    numbers
-}
-
-fn write_ten(numbers: [i16; 10], out: &mut [u8])
-    requires { ⌜ length (now out) ≡ 2 * 10 ⌝ }
-    ensures { λ _. ⌜ now (out .exit) ≡ bytesOf numbers ⌝ }
-{
-    put(out, &numbers);
-}
-
-fn write_past(numbers: [i16; PAST], out: &mut [u8])
-    requires { ⌜ length (now out) ≡ 2 * past .count ⌝ }
-    ensures { λ _. ⌜ now (out .exit) ≡ bytesOf numbers ⌝ }
-{
-    put(out, &numbers);
-}
-
-fn write_one(numbers: [i16; 1], out: &mut [u8])
-    requires { ⌜ length (now out) ≡ 2 ⌝ }
-    ensures { λ _. ⌜ now (out .exit) ≡ bytesOf numbers ⌝ }
-{
-    put(out, &numbers);
-}
 
 // ---- the core: where each part ends, in bytes
 const LSP_END: usize = 2 * LSP;

@@ -53,25 +53,25 @@ pub record Forty (f : SynthesisInput) : Type 0 where
   pub excitation : length (f .excitation) ≡ 40
 
 -- ---- what the synthesis makes
-pub record Made (d : SynthesisResult) : Type 0 where
+pub record SynthesisWords (d : SynthesisResult) : Type 0 where
   pub samples : Words 40 (d .samples)
   pub past : Words 154 (d .past)
 
 pub taking-words : (past exc : List ℤ) → Words 154 past → Words 40 exc → Words 154 (taking past exc)
 taking-words past exc p e = words-append (drop 40 past) exc (words-drop 40 past p) e
 
-pub synthesis : (f : SynthesisInput) (h p : List ℤ) → Forty f → length h ≡ 10 → Words 154 p → Made (synthesisResult f h p)
+pub synthesis-words : (f : SynthesisInput) (h p : List ℤ) → Forty f → length h ≡ 10 → Words 154 p → SynthesisWords (synthesisResult f h p)
 unfolding synthesisResult
-made f h p k e w =
+synthesis-words f h p k e w =
     let q = words-quartered (f .feedback) (k .feedback) in
-    either Made (overflowed 10 (f .row) (f .excitation) h)
+    either SynthesisWords (overflowed 10 (f .row) (f .excitation) h)
     (record { samples = samples-words (f .row) (quartered (f .feedback)) h e (q .count); past = taking-words (quartered p) (quartered (f .feedback)) (words-quartered p w) q })
     (record { samples = samples-words (f .row) (f .excitation) h e (k .excitation); past = taking-words p (f .feedback) w (k .feedback) })
 
 -- the flag, by the place
-pub made-flag : (f : SynthesisInput) (h p : List ℤ) → length (f .excitation) ≡ 40 → synthesisResult f h p .retried ≡ ltb (synthesisResult f h p .place) 40
+pub synthesis-flag : (f : SynthesisInput) (h p : List ℤ) → length (f .excitation) ≡ 40 → synthesisResult f h p .retried ≡ ltb (synthesisResult f h p .place) 40
 unfolding synthesisResult
-made-flag f h p e = go (overflowed 10 (f .row) (f .excitation) h) (overflowed-by-at 10 (f .row) (f .excitation) h ∙ rw e)
+synthesis-flag f h p e = go (overflowed 10 (f .row) (f .excitation) h) (overflowed-by-at 10 (f .row) (f .excitation) h ∙ rw e)
   where
     go : (b : Bool) → b ≡ ltb (overflowedAt 10 (f .row) (f .excitation) h) 40 → cond b (retriedResult f h p) (unretriedResult f h p) .retried ≡ ltb (cond b (retriedResult f h p) (unretriedResult f h p) .place) 40
     go true k = k
@@ -106,9 +106,9 @@ module _ (c : Core) (row : List ℤ) (p : SubframeInputs) where
       let exc = feedback v (p .pitch) (sharpened (p .innovation) (p .lag .samples) (c .sharpening .0)) (p .code) in
       every-append (Divides 16384) (firstExcitation v (p .pitch) exc .quotients) [] (first-divisors v (p .pitch) exc) tt
 
-  turn-forty : length (c .past) ≡ 154 → Forty (subframeResult c row p .input)
+  subframe-forty : length (c .past) ≡ 154 → Forty (subframeResult c row p .input)
   unfolding subframeResult excitations feedback
-  turn-forty h =
+  subframe-forty h =
       let v = predicted (c .past) (p .lag) in
       let code = sharpened (p .innovation) (p .lag .samples) (c .sharpening .0) in
       let n = predicted-length (c .past) (p .lag) h in
@@ -123,13 +123,13 @@ module _ (c : Core) (row : List ℤ) (p : SubframeInputs) where
   unfolding subframeResult
   subframe-facts h u =
       let t = subframeResult c row p in
-      let k = turn-forty (h .past .count) in
-      let m = made (t .input) (c .history) (c .past) k (h .history .count) (h .past) in
+      let k = subframe-forty (h .past .count) in
+      let m = synthesis-words (t .input) (c .history) (c .past) k (h .history .count) (h .past) in
       let r = retry (t .input) (c .history) (c .past) (h .history .count) in
       record {
         forty = k;
         samples = m .samples;
-        flag = made-flag (t .input) (c .history) (c .past) (k .excitation);
+        flag = synthesis-flag (t .input) (c .history) (c .past) (k .excitation);
         divisors = subframe-divisors;
         next = record {
           held = record { past = m .past; history = newest-words (t .synthesis .samples) (m .samples) };
@@ -149,27 +149,27 @@ results c (row ∷ rows) (p ∷ ps) lsps e h u =
     (r, results (subframeResult c row p .next) rows ps lsps (r .next .lsp) (r .next .held) (u .1))
 
 -- each has its row
-ran-rows : (c : Core) (rows : List (List ℤ)) (ps : List SubframeInputs) → length rows ≡ length ps → map (λ (t : SubframeResult). t .input .row) (subframeResults c rows ps) ≡ rows
+results-rows : (c : Core) (rows : List (List ℤ)) (ps : List SubframeInputs) → length rows ≡ length ps → map (λ (t : SubframeResult). t .input .row) (subframeResults c rows ps) ≡ rows
 unfolding subframeResults subframeResult
-ran-rows c [] ps e = refl
-ran-rows c (row ∷ rows) [] e = absurd (omega (arith, e))
-ran-rows c (row ∷ rows) (p ∷ ps) e = ap (λ (xs : List (List ℤ)). row ∷ xs) (ran-rows (subframeResult c row p .next) rows ps (omega (arith, e)))
+results-rows c [] ps e = refl
+results-rows c (row ∷ rows) [] e = absurd (omega (arith, e))
+results-rows c (row ∷ rows) (p ∷ ps) e = ap (λ (xs : List (List ℤ)). row ∷ xs) (results-rows (subframeResult c row p .next) rows ps (omega (arith, e)))
 
 -- the last of n + 1, of which Q holds as of each
 record Last (Q : SubframeResult → Type 0) (c : Core) (ts : List SubframeResult) (n : ℕ) : Type 0 where
-  subframeResult : SubframeResult
-  holds : Q subframeResult
-  next : coreAfter c ts ≡ subframeResult .next
-  flag : getD (flagsOf ts) n false ≡ subframeResult .synthesis .retried
+  result : SubframeResult
+  holds : Q result
+  next : coreAfter c ts ≡ result .next
+  flag : getD (flagsOf ts) n false ≡ result .synthesis .retried
 
 last : (Q : SubframeResult → Type 0) (c : Core) (ts : List SubframeResult) (n : ℕ) → length ts ≡ suc n → Every Q ts → Last Q c ts n
 last Q c [] n l e = absurd (omega (arith, l))
-last Q c (t ∷ []) zero l e = record { subframeResult = t; holds = e .0; next = refl; flag = refl }
+last Q c (t ∷ []) zero l e = record { result = t; holds = e .0; next = refl; flag = refl }
 last Q c (t ∷ []) (suc n) l e = absurd (omega (arith, l))
 last Q c (t ∷ u ∷ ts) zero l e = absurd (omega (arith, l))
 last Q c (t ∷ u ∷ ts) (suc n) l e =
     let r = last Q (t .next) (u ∷ ts) n (omega (arith, l)) (e .1) in
-    record { subframeResult = r .turn; holds = r .holds; next = r .next; flag = r .flag }
+    record { result = r .result; holds = r .holds; next = r .next; flag = r .flag }
 
 every-flat : {A B : Type 0} (P : B → Type 0) (f : A → List B) (xs : List A) → Every (λ (x : A). Every P (f x)) xs → Every P (flatMap f xs)
 unfolding flatMap
@@ -200,7 +200,7 @@ pub core-facts : (c : Core) (f : FrameInputs) → Usable f → Held c → CoreFa
 unfolding coreResult
 core-facts c f u h =
     let ts = coreResult c f .subframes in
-    let rows = ran-rows (openedCore c f) (rowList (coreResult c f .rows)) (f .subframes) (sym (u .four)) in
+    let rows = results-rows (openedCore c f) (rowList (coreResult c f .rows)) (f .subframes) (sym (u .four)) in
     let four = sym (length-map ts (λ (t : SubframeResult). t .input .row)) ∙ ap length rows in
     let each = results (openedCore c f) (rowList (coreResult c f .rows)) (f .subframes) (lspsOf (f .lsfs)) refl (record { past = h .past; history = h .history }) (u .subframes) in
     let l = last (SubframeFacts (lspsOf (f .lsfs))) (openedCore c f) ts 3 four each in

@@ -36,9 +36,9 @@ module _ (c : Core) (row : List ℤ) (p : Parameters) where
 
 -- ---- four of them
 module _ (core : Core) (rows : Rows) (i : Inputs) where
-  pub ran-is : {a b c d : SubframeOutput} {ys : List ℤ} → a ≡ subframeOutput (subframeResult core (rows .a) (subframeOf (i .a))) → b ≡ subframeOutput (subframeResult (a .next) (rows .b) (subframeOf (i .b))) → c ≡ subframeOutput (subframeResult (b .next) (rows .c) (subframeOf (i .c))) → d ≡ subframeOutput (subframeResult (c .next) (rows .d) (subframeOf (i .d))) → ys ≡ a .samples ++ (b .samples ++ (c .samples ++ d .samples)) → _≡_ {A = SubframesOutput} (record { places = a .place ∷ b .place ∷ c .place ∷ d .place ∷ []; samples = ys; next = d .next }) (subframesOutput core (subframeResults core (rowList rows) (inputsOf i .subframes)))
+  pub results-are : {a b c d : SubframeOutput} {ys : List ℤ} → a ≡ subframeOutput (subframeResult core (rows .a) (subframeOf (i .a))) → b ≡ subframeOutput (subframeResult (a .next) (rows .b) (subframeOf (i .b))) → c ≡ subframeOutput (subframeResult (b .next) (rows .c) (subframeOf (i .c))) → d ≡ subframeOutput (subframeResult (c .next) (rows .d) (subframeOf (i .d))) → ys ≡ a .samples ++ (b .samples ++ (c .samples ++ d .samples)) → _≡_ {A = SubframesOutput} (record { places = a .place ∷ b .place ∷ c .place ∷ d .place ∷ []; samples = ys; next = d .next }) (subframesOutput core (subframeResults core (rowList rows) (inputsOf i .subframes)))
   unfolding subframeResults flatMap
-  ran-is ea eb ec ed ey = rw (append-nil, ey, ed, ec, eb, ea)
+  results-are ea eb ec ed ey = rw (append-nil, ey, ed, ec, eb, ea)
 
 -- ---- a frame
 module _ (c : Core) (i : Inputs) where

@@ -14,7 +14,7 @@ use Rattle.decoder.specs.declared.SynthesisOutput.{SynthesisOutput}
 use Rattle.decoder.specs.Subframe.{SynthesisInput, synthesisResult, synthesisOutput}
 
 module _ (a fb x h p : List ℤ) (l : length x ≡ 40) where
-  abbrev fed : SynthesisInput
+  abbrev input : SynthesisInput
   input = record { row = a; feedback = fb; excitation = x }
 
   -- a step of the first pass clamped, or none did
@@ -24,10 +24,10 @@ module _ (a fb x h p : List ℤ) (l : length x ≡ 40) where
   unclamped : 40 ≤ overflowedAt 10 a x h → overflowed 10 a x h ≡ false
   unclamped n = overflowed-by-at 10 a x h ∙ rw l (le-ltb _ 40 n)
 
-  pub synthesised-again : {place : ℕ} {ys qs ps : List ℤ} → place ≡ previewed a x h .place → place < 40 → qs ≡ quartered fb → ys ≡ filtered a qs h .samples → ps ≡ taking (quartered p) qs → _≡_ {A = SynthesisOutput} (record { place = place; samples = ys; feedback = qs; past = ps }) (synthesisOutput (synthesisResult fed h p))
+  pub result-retried : {place : ℕ} {ys qs ps : List ℤ} → place ≡ previewed a x h .place → place < 40 → qs ≡ quartered fb → ys ≡ filtered a qs h .samples → ps ≡ taking (quartered p) qs → _≡_ {A = SynthesisOutput} (record { place = place; samples = ys; feedback = qs; past = ps }) (synthesisOutput (synthesisResult input h p))
   unfolding synthesisResult previewed filtered
-  synthesised-again e n q y t = rw (clamped (rw e at n)) (rw (e, y, t, q))
+  result-retried e n q y t = rw (clamped (rw e at n)) (rw (e, y, t, q))
 
-  pub synthesised-kept : {place : ℕ} {ys ps : List ℤ} → place ≡ previewed a x h .place → 40 ≤ place → ys ≡ previewed a x h .samples → ps ≡ taking p fb → _≡_ {A = SynthesisOutput} (record { place = place; samples = ys; feedback = fb; past = ps }) (synthesisOutput (synthesisResult fed h p))
+  pub result-unretried : {place : ℕ} {ys ps : List ℤ} → place ≡ previewed a x h .place → 40 ≤ place → ys ≡ previewed a x h .samples → ps ≡ taking p fb → _≡_ {A = SynthesisOutput} (record { place = place; samples = ys; feedback = fb; past = ps }) (synthesisOutput (synthesisResult input h p))
   unfolding synthesisResult previewed
-  synthesised-kept e n y t = let o = unclamped (rw e at n) in rw o (rw (e, y, t, previewed-all a x h o))
+  result-unretried e n y t = let o = unclamped (rw e at n) in rw o (rw (e, y, t, previewed-all a x h o))

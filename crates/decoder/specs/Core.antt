@@ -104,7 +104,7 @@ unfoldable pub coreResult : Core → FrameInputs → CoreResult
 coreResult c f =
     let rows = rowsOf (c .lsp) (lspsOf (f .lsfs)) in
     let subframes = subframeResults (openedCore c f) (rowList rows) (f .subframes) in
-    record { rows = rows; subframes = turns; next = coreAfter (openedCore c f) turns }
+    record { rows = rows; subframes = subframes; next = coreAfter (openedCore c f) subframes }
 
 -- what the code gives of it
 abbrev pub coreOutput : CoreResult → CoreOutput

@@ -63,7 +63,7 @@ module _ (c : Core) (row : List ℤ) (p : SubframeInputs) (h : Held c) (u : Usab
       let r = retry (t .input) (c .history) (c .past) (h .history .count) in
       record {
         row = e;
-        recursion = (k .forty .feedback .count, k .forty .excitation);
+        input = (k .forty .feedback .count, k .forty .excitation);
         machine = (h .history .count, h .past .count);
         forty = k .samples .count;
         flag = r .flag;

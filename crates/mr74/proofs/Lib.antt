@@ -1,6 +1,6 @@
--- Sheets: a sheet's lags and inputs. Checks: the groups of checks. Passed: what an accepted call has shown. Usable: the inputs of an accepted sheet. Answers: the call's answer from its parts.
+-- Sheets: a sheet's lags and inputs. Groups: the groups of checks. Passed: what an accepted call has shown. Usable: the inputs of an accepted sheet. Answers: the call's answer from its parts.
 pub mod Sheets
-pub mod Checks
+pub mod Groups
 pub mod Passed
 pub mod Usable
 pub mod Answers

@@ -15,7 +15,7 @@ use Rattle.state.specs.State.{stateChecks}
 use Rattle.state.proofs.Checks.{InRange, in-range}
 use Rattle.mr74.specs.Checks.{lengthChecks, lsfChecks, pitchChecks, gainChecks, sheetChecks, frameOutcome}
 use Rattle.mr74.specs.Inner.{Ready}
-use Rattle.mr74.proofs.Checks.{lengths-accept, lsfs-accept, pitch-accept, gains-accept}
+use Rattle.mr74.proofs.Groups.{lengths-accept, lsfs-accept, pitch-accept, gains-accept}
 
 pub record Passed (sheet : List ℤ) (s : State) (room : ℕ) : Type 0 where
   pub ready : Ready sheet

@@ -14,7 +14,7 @@ use Rattle.pitch.specs.declared.PitchLag.{PitchLag}
 use Rattle.pitch.specs.Lag.{absolute, relative, lagOf}
 use Rattle.decoder.specs.declared.Parameters.{Parameters}
 use Rattle.decoder.specs.Inputs.{subframeOf, inputsOf}
-use Rattle.mr74.specs.declared.LagPair.{LagPair}
+use Rattle.mr74.specs.declared.sheet.LagPair.{LagPair}
 use Rattle.mr74.specs.Sheet.{lsfsOf, lagPair, innovationOf, subframeAt, subframesFrom, sheetInputs}
 use Rattle.mr74.specs.Inner.{twoLags}
 

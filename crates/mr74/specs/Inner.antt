@@ -12,7 +12,7 @@ use Rattle.decoder.specs.Inputs.{FrameInputs}
 use Rattle.decoder.specs.Core.{flagsOf}
 use Rattle.state.specs.declared.State.{State}
 use Rattle.outcome.specs.declared.Outcome.{Outcome}
-use Rattle.mr74.specs.declared.LagPair.{LagPair}
+use Rattle.mr74.specs.declared.sheet.LagPair.{LagPair}
 use Rattle.mr74.specs.declared.FrameOutput.{FrameOutput}
 use Rattle.mr74.specs.declared.FrameAnswer.{FrameAnswer}
 use Rattle.mr74.specs.Sheet.{lsfsOf}

@@ -1,11 +1,13 @@
 // Runs the recorded answers of the reference, the files of data/, through the stages and the three calls, and says for each file how many records there are
 // and how many differ. A record is a row of 16-bit words, low byte first: inputs, then answers.
 ghost use Prim.Native.Nat.{_≤_};
+
 mod compare;
 mod frames;
 mod records;
 mod stages;
 mod words;
+
 use libc::STDOUT_FILENO;
 
 fn cut_records() {

@@ -1,7 +1,4 @@
 // The stages on their records: inputs, then the answers of the reference.
-use energy::GainControl;
-use pitch::Fraction;
-use pitch::PitchLag;
 use super::compare::bytes_same;
 use super::compare::forty_same;
 use super::compare::frame_same;
@@ -17,6 +14,9 @@ use super::words::row;
 use super::words::rows;
 use super::words::ten;
 use super::words::word;
+use energy::GainControl;
+use pitch::Fraction;
+use pitch::PitchLag;
 
 pub fn lsp(b: &[u8]) -> bool {
     if b.len() != 40 {
@@ -70,7 +70,10 @@ pub fn interpolate(b: &[u8]) -> bool {
     if b.len() != 128 {
         return false;
     }
-    rows_same(&b[40..128], lpc::interpolate(ten(&b[0..20]), ten(&b[20..40])))
+    rows_same(
+        &b[40..128],
+        lpc::interpolate(ten(&b[0..20]), ten(&b[20..40])),
+    )
 }
 
 fn fraction_of(thirds: i16) -> Fraction {

@@ -17,10 +17,10 @@ use Rattle.adaptive.proofs.sample.Statement.{statement}
 use Rattle.adaptive.proofs.sample.Tie as tie
 
 abbrev Inv-loop : tie.InvT-loop
-Inv-loop x first taps row plain sum₀ i₀ sum i = (i ≤ 10) × Summed x first (leftOf taps row) (rightOf taps row) plain (toZ w32 sum) i
+Inv-loop x first taps base plain sum₀ i₀ sum i = (i ≤ 10) × Summed x first (leftOf taps base) (rightOf taps base) plain (toZ w32 sum) i
 
 abbrev μ-loop : tie.MeasureT-loop
-μ-loop x first taps row plain sum₀ i₀ sum i = 10 - i
+μ-loop x first taps base plain sum₀ i₀ sum i = 10 - i
 
 loop-holds : tie.Need-loop-holds Inv-loop μ-loop
 loop-holds c = (search needs, summed-none _ _ _ _ _ refl)
@@ -32,7 +32,7 @@ mac-requires c κs q =
     unclamped-eq (back w16 (c .before .mac-arg .given)) (back w16 (c .mac-arg2 .given)) (first _ _ _ _ _ (s .pre .1 .0) (s .pre .1 .1) (search needs) (l .loop .inv .1) (search needs) q .plain)
 
 -- the sum after the first step
-after-first : (c : tie.After-mac Inv-loop μ-loop) → toZ w32 (ofZ w32 (c .mac .result)) ≡ L-mac (toZ w32 (c .before .before .before .before .loop .sum)) (at (c .before .before .before .before .before .args .x .now) (c .before .before .before .before .before .args .first - c .before .before .before .before .loop .i)) (leftOf (c .before .before .before .before .before .args .taps .now) (c .before .before .before .before .before .args .row) (c .before .before .before .before .loop .i))
+after-first : (c : tie.After-mac Inv-loop μ-loop) → toZ w32 (ofZ w32 (c .mac .result)) ≡ L-mac (toZ w32 (c .before .before .before .before .loop .sum)) (at (c .before .before .before .before .before .args .x .now) (c .before .before .before .before .before .args .first - c .before .before .before .before .loop .i)) (leftOf (c .before .before .before .before .before .args .taps .now) (c .before .before .before .before .before .args .base) (c .before .before .before .before .loop .i))
 after-first c = got w32 (c .mac .ok) (c .mac .ensures ∙ L-mac-eq refl (back w16 (c .before .before .mac-arg .given)) (back w16 (c .before .mac-arg2 .given)))
 
 mac-requires-2 : tie.Need-mac-requires-2 Inv-loop μ-loop

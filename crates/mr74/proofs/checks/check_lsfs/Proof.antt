@@ -1,0 +1,25 @@
+-- `check_lsfs` meets its contract: the place is that of the search.
+use mathlib.Core.Path.{_∙_}
+use borrow.Author.Needs.{needs}
+use Rattle.outcome.specs.declared.Outcome.the-variants.{Lsf}
+use Rattle.outcome.proofs.Checks.{place-met, place-unmet, none-left}
+use Rattle.mr74.proofs.checks.check_lsfs.Statement.{statement}
+use Rattle.mr74.proofs.checks.check_lsfs.Tie as tie
+
+returns : tie.Need-returns
+returns c = place-met Lsf _ _ _ (c .before .first-outside .ensures) (c .if1 .taken)
+
+returns-2 : tie.Need-returns-2
+returns-2 c = none-left ∙ place-unmet Lsf _ _ _ (c .before .first-outside .ensures) (c .if1 .left)
+
+pub check-lsfs-spec : {M : Type 1} → statement M
+check-lsfs-spec =
+    tie.close
+    (tie.spec
+    (λ c. search needs)
+    (λ c. search needs)
+    (λ c. search needs)
+    (λ c. search needs)
+    (λ c κs. search needs)
+    returns
+    returns-2)
