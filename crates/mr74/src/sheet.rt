@@ -10,6 +10,7 @@ ghost use Rattle.mr74.specs.Sheet.{lsfsOf, lagPair, innovationOf, subfra
 ghost use Rattle.mr74.specs.Inner.{Ready, twoLags};
 use basicop::Q1;
 use basicop::Q14;
+use copy::copy;
 use decoder::Inputs;
 use decoder::Parameters;
 use pitch::PitchLag;
@@ -21,9 +22,7 @@ fn lsfs(sheet: &[i16]) -> [i16; 10]
     ensures { λ r. ⌜ r ≡ lsfsOf (now (sheet .entry)) ⌝ }
 {
     let mut r = [0i16; 10];
-    for i in 0..10 {
-        r[i] = sheet[i];
-    }
+    copy(&mut r, &sheet[0..10]);
     r
 }
 
@@ -59,10 +58,9 @@ fn innovation(sheet: &[i16], subframe: usize) -> [i16; 40]
     requires { ⌜ (length (now sheet) ≡ 182) × (subframe < 4) ⌝ }
     ensures { λ r. ⌜ r ≡ innovationOf (now (sheet .entry)) subframe ⌝ }
 {
+    let from = 22 + 40 * subframe;
     let mut r = [0i16; 40];
-    for i in 0..40 {
-        r[i] = sheet[22 + 40 * subframe + i];
-    }
+    copy(&mut r, &sheet[from..from + 40]);
     r
 }
 

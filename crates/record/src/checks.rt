@@ -3,8 +3,12 @@ ghost use mathlib.Core.Path.{_≡_};
 ghost use lib.ListN.{length};
 ghost use Rattle.outcome.specs.Checks.{firstMet};
 ghost use Rattle.record.specs.Record.{sizeChecks, trailerChecks, bodyChecks, byteChecks, roomChecks, writeChecks};
-use super::BODY_BYTES;
+use super::COUNT;
+use super::DISTANCE;
 use super::RECORD_BYTES;
+use super::TRAILER_BYTES;
+use super::VERSION;
+use coding::BODY_BYTES;
 use outcome::Outcome;
 use state::State;
 
@@ -13,7 +17,7 @@ use state::State;
 fn check_size(size: usize) -> Outcome
     ensures { λ r. ⌜ r ≡ firstMet (sizeChecks size) ⌝ }
 {
-    if size < 8 {
+    if size < TRAILER_BYTES {
         return Outcome::RecordShort;
     }
     Outcome::Accepted
@@ -30,13 +34,13 @@ fn check_trailer(t: &[u8]) -> Outcome
     if t[1] != 0x37 {
         return Outcome::Tag;
     }
-    if coding::unsigned(t[2], t[3]) != 1 {
+    if coding::unsigned(t[2], t[3]) != VERSION {
         return Outcome::Version;
     }
-    if coding::unsigned(t[4], t[5]) != 394 {
+    if coding::unsigned(t[4], t[5]) != DISTANCE {
         return Outcome::Layout;
     }
-    if coding::unsigned(t[6], t[7]) != 197 {
+    if coding::unsigned(t[6], t[7]) != COUNT {
         return Outcome::Layout;
     }
     Outcome::Accepted
@@ -61,7 +65,7 @@ pub fn check_bytes(bytes: &[u8]) -> Outcome
     if !size.accepted() {
         return size;
     }
-    let end = n - 8;
+    let end = n - TRAILER_BYTES;
     let trailer = check_trailer(&bytes[end..]);
     if !trailer.accepted() {
         return trailer;

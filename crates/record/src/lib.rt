@@ -2,23 +2,33 @@
 ghost use mathlib.Core.Path.{_≡_};
 ghost use lib.ListN.{length};
 ghost use denote.Ref.{ptr};
-ghost use Rattle.record.specs.Record.{refusedAnswer, readCall, readResult, trailerBytes, encoded, writeResult, writeCall};
+ghost use Rattle.record.specs.Record.{recordLength, refusedAnswer, readCall, readResult, trailerBytes, encoded, writeResult, writeCall};
 
 mod checks;
 
 use basicop::Q14;
 use checks::check_bytes;
 use checks::check_write;
+use coding::BODY_BYTES;
 use decoder::Core;
 use energy::GainControl;
 use outcome::Outcome;
 use postfilter::Postfilter;
 use state::State;
 
-const BODY_BYTES: usize = 394;
+// What a record ends with: the tag, and, 16 bits each, version, distance back from trailer to body, count of the body's numbers.
+const TRAILER_BYTES: usize = 8;
 
-// A record without a note: the body and the trailer's 8 bytes.
-const RECORD_BYTES: usize = 402;
+const VERSION: u16 = 1;
+
+const DISTANCE: u16 = BODY_BYTES as u16;
+
+const COUNT: u16 = state::NUMBERS as u16;
+
+const FIELDS: [i16; 3] = [VERSION as i16, DISTANCE as i16, COUNT as i16];
+
+// A record without a note: the body and the trailer.
+const RECORD_BYTES: usize = BODY_BYTES + TRAILER_BYTES;
 
 // The outcome and the state of a read.
 pub struct Answer {
@@ -40,14 +50,14 @@ fn refused(outcome: Outcome) -> Answer
         outcome,
         state: State {
             core: Core {
-                lsp: [0; 10],
-                past: [0; 154],
+                lsp: [0; state::LSP],
+                past: [0; state::PAST],
                 sharpening: Q14(0),
-                history: [0; 10],
+                history: [0; state::HISTORY],
             },
             post: Postfilter {
-                input_history: [0; 10],
-                synthesis_history: [0; 10],
+                input_history: [0; state::HISTORY],
+                synthesis_history: [0; state::HISTORY],
                 previous_residual: 0,
                 gain: GainControl { previous_gain: 0 },
             },
@@ -65,7 +75,7 @@ pub fn answer_of(bytes: &[u8]) -> Answer
     }
     let n = bytes.len();
     let start = n - RECORD_BYTES;
-    let end = n - 8;
+    let end = n - TRAILER_BYTES;
     let state = coding::state_in(&bytes[start..end]);
     let outcome = state::check_state(state);
     if !outcome.accepted() {
@@ -103,16 +113,16 @@ fn write_trailer(out: &mut [u8])
 {
     out[0] = 0x4D;
     out[1] = 0x37;
-    let fields = [1i16, 394, 197];
+    let fields = FIELDS;
     coding::put(&mut out[2..8], &fields);
 }
 
 fn write_record(state: State, out: &mut [u8])
-    requires { ⌜ length (now out) ≡ 402 ⌝ }
+    requires { ⌜ length (now out) ≡ recordLength ⌝ }
     ensures { λ _. ⌜ now (out .exit) ≡ encoded state ⌝ }
 {
-    coding::write_body(state, &mut out[0..394]);
-    write_trailer(&mut out[394..402]);
+    coding::write_body(state, &mut out[0..BODY_BYTES]);
+    write_trailer(&mut out[BODY_BYTES..RECORD_BYTES]);
 }
 
 // Writes the record of a state, without a note.
