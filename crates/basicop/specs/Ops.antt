@@ -19,7 +19,7 @@ least w = negsuc (2 ^ hbits w - 1)
 abbrev pub most : Width → ℤ
 most w = pos (2 ^ hbits w - 1)
 
--- z held to the range of the width
+-- z held to the range of the width: document 01's "clamped"
 unfoldable pub clamp : Width → ℤ → ℤ
 clamp w z = cond (ltZ z (least w)) (least w) (cond (ltZ (most w) z) (most w) z)
 
@@ -129,6 +129,7 @@ norm-l (negsuc (suc n)) = pos (doublings 30 (suc n))
 -- ---- div_s, for 0 ≤ n ≤ d and 0 < d. A quotient is had only here, with what it was divided by
 pub record Quotient : Type 0 where
   pub value : ℤ
+  -- document 01's divisor: "any number that the definition divides by, at a division it reaches"
   pub divisor : ℤ
 
 -- what is left of the numerator, and the quotient so far

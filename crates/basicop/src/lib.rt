@@ -46,6 +46,9 @@ pub struct Q14(pub i16);
 // Code gain.
 pub struct Q1(pub i16);
 
+// The innovation of a subframe, forty numbers.
+pub struct Q13(pub [i16; 40]);
+
 // Gain between two energies.
 pub struct Q12(pub i16);
 

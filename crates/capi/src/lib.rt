@@ -51,6 +51,8 @@ fn code(outcome: Outcome) -> u32
     number + 256 * place
 }
 
+// The frame call. Accepted: the samples in `out`, the next state in `state`; refused: both stay. Rows and flags are the answer's either way.
+// Returns number + 256 * place, or 255 where state, rows or flags has another length, and nothing is changed.
 #[no_mangle]
 pub extern "C" fn mr74_frame(
     sheet: &[u8],
@@ -70,6 +72,7 @@ pub extern "C" fn mr74_frame(
 }
 
 // ---- the reader
+// The record's reader: the state in `state`, the length of the note, which is what the record begins with, in `note`; both zero where it refuses.
 #[no_mangle]
 pub extern "C" fn mr74_read(bytes: &[u8], state: &mut [u8], note: &mut usize) -> u32
     ensures { λ r. ⌜ readReturn r (now (state .exit)) (now (note .exit)) ≡ readBytes (now (bytes .entry)) (now (state .entry)) (now (note .entry)) ⌝ }
@@ -87,6 +90,7 @@ pub extern "C" fn mr74_read(bytes: &[u8], state: &mut [u8], note: &mut usize) ->
 }
 
 // ---- the writer
+// The record's writer: the record of `state` in `bytes`, which stay as they are where it refuses.
 #[no_mangle]
 pub extern "C" fn mr74_write(state: &[u8], bytes: &mut [u8]) -> u32
     ensures { λ r. ⌜ writeReturn r (now (bytes .exit)) ≡ writeBytes (now (state .entry)) (now (bytes .entry)) ⌝ }

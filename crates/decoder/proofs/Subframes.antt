@@ -22,17 +22,17 @@ use Rattle.decoder.specs.Enhance.{firstExcitation}
 use Rattle.decoder.specs.Subframe.{SynthesisInput, synthesisResult, synthesisOutput}
 use Rattle.decoder.specs.Core.{excitations, subframeResult, subframeOutput, subframeResults, subframesOutput, rowList, coreResult, coreOutput}
 
-pub excited-is : (past : List ℤ) (sharp : ℤ) (p : Parameters) {v code exc x : List ℤ} → v ≡ predicted past (lagOf (p .lag)) → code ≡ sharpened (p .innovation) (pos (p .lag .samples)) sharp → exc ≡ feedback v (p .pitch .0) code (p .code .0) → x ≡ firstExcitation v (p .pitch .0) exc .value → _≡_ {A = Excitations} (record { feedback = exc; excitation = x }) (excitations past sharp (subframeOf p) .value)
+pub excitations-are : (past : List ℤ) (sharp : ℤ) (p : Parameters) {v code exc x : List ℤ} → v ≡ predicted past (lagOf (p .lag)) → code ≡ sharpened (p .innovation .0) (pos (p .lag .samples)) sharp → exc ≡ feedback v (p .pitch .0) code (p .code .0) → x ≡ firstExcitation v (p .pitch .0) exc .value → _≡_ {A = Excitations} (record { feedback = exc; excitation = x }) (excitations past sharp (subframeOf p) .value)
 unfolding excitations
-excited-is past sharp p ev ec ee ex = rw (ex, ee, ec, ev)
+excitations-are past sharp p ev ec ee ex = rw (ex, ee, ec, ev)
 
 module _ (c : Core) (row : List ℤ) (p : Parameters) where
-  abbrev fed : Excitations → SynthesisInput
-  fed e = record { row = row; feedback = e .feedback; excitation = e .excitation }
+  abbrev inputOf : Excitations → SynthesisInput
+  inputOf e = record { row = row; feedback = e .feedback; excitation = e .excitation }
 
-  pub turned-is : {e : Excitations} {s : SynthesisOutput} {g : ℤ} {h : List ℤ} → e ≡ excitations (c .past) (c .sharpening .0) (subframeOf p) .value → s ≡ synthesisOutput (synthesisResult (fed e) (c .history) (c .past)) → g ≡ sharpening (p .pitch .0) → h ≡ newest 10 (s .samples) → _≡_ {A = SubframeOutput} (record { place = s .place; samples = s .samples; next = record { lsp = c .lsp; past = s .past; sharpening = record { 0 = g }; history = h } }) (subframeOutput (subframeResult c row (subframeOf p)))
+  pub subframe-is : {e : Excitations} {s : SynthesisOutput} {g : ℤ} {h : List ℤ} → e ≡ excitations (c .past) (c .sharpening .0) (subframeOf p) .value → s ≡ synthesisOutput (synthesisResult (inputOf e) (c .history) (c .past)) → g ≡ sharpening (p .pitch .0) → h ≡ newest 10 (s .samples) → _≡_ {A = SubframeOutput} (record { place = s .place; samples = s .samples; next = record { lsp = c .lsp; past = s .past; sharpening = record { 0 = g }; history = h } }) (subframeOutput (subframeResult c row (subframeOf p)))
   unfolding subframeResult
-  turned-is ee es eg eh = rw (eh, es, ee, eg)
+  subframe-is ee es eg eh = rw (eh, es, ee, eg)
 
 -- ---- four of them
 module _ (core : Core) (rows : Rows) (i : Inputs) where
@@ -46,6 +46,6 @@ module _ (c : Core) (i : Inputs) where
   abbrev begun : List ℤ → Core
   begun lsps = record { lsp = lsps; past = c .past; sharpening = c .sharpening; history = c .history }
 
-  pub decoded-is : {lsps : List ℤ} {rows : Rows} {run : SubframesOutput} → lsps ≡ lspsOf (i .lsfs) → rows ≡ rowsOf (c .lsp) lsps → run ≡ subframesOutput (begun lsps) (subframeResults (begun lsps) (rowList rows) (inputsOf i .subframes)) → _≡_ {A = CoreOutput} (record { rows = rows; subframes = run }) (coreOutput (coreResult c (inputsOf i)))
+  pub core-is : {lsps : List ℤ} {rows : Rows} {run : SubframesOutput} → lsps ≡ lspsOf (i .lsfs) → rows ≡ rowsOf (c .lsp) lsps → run ≡ subframesOutput (begun lsps) (subframeResults (begun lsps) (rowList rows) (inputsOf i .subframes)) → _≡_ {A = CoreOutput} (record { rows = rows; subframes = run }) (coreOutput (coreResult c (inputsOf i)))
   unfolding coreResult
-  decoded-is el er en = rw (en, er, el)
+  core-is el er en = rw (en, er, el)

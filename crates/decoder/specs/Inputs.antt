@@ -24,7 +24,7 @@ pub record FrameInputs : Type 0 where
 
 -- ---- the code's
 abbrev pub subframeOf : Parameters → SubframeInputs
-subframeOf p = record { lag = lagOf (p .lag); pitch = p .pitch .0; code = p .code .0; innovation = p .innovation }
+subframeOf p = record { lag = lagOf (p .lag); pitch = p .pitch .0; code = p .code .0; innovation = p .innovation .0 }
 
 abbrev pub inputsOf : Inputs → FrameInputs
 inputsOf i = record { lsfs = i .lsfs; subframes = subframeOf (i .a) ∷ subframeOf (i .b) ∷ subframeOf (i .c) ∷ subframeOf (i .d) ∷ [] }

@@ -4,6 +4,7 @@ mod frame;
 mod subframe;
 
 use basicop::Q1;
+use basicop::Q13;
 use basicop::Q14;
 pub use frame::decode;
 use lpc::Rows;
@@ -25,7 +26,7 @@ pub struct Parameters {
     pub lag: PitchLag,
     pub pitch: Q14,
     pub code: Q1,
-    pub innovation: [i16; 40],
+    pub innovation: Q13,
 }
 
 // What a frame is decoded from: ten LSFs and four subframes.

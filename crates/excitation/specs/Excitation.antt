@@ -19,7 +19,7 @@ sharpened code t sharp = iter (grow (sharpenedAt code t (shl sharp (pos 1)))) 40
 unfoldable pub sharpening : ℤ → ℤ
 sharpening gain = cond (ltZ (pos 0) (sub gain (pos 13017))) (pos 13017) gain
 
--- ---- the excitation that is fed back, from the prediction v by the pitch gain (Q14) and the code by the code gain (Q1):
+-- ---- document 01's feedback: the excitation that is fed back, from the prediction v by the pitch gain (Q14) and the code by the code gain (Q1):
 -- two products, their sum, doubled, rounded
 abbrev pub feedbackAt : ℤ → ℤ → ℤ → ℤ → ℤ
 feedbackAt pitch gain v code = round (L-shl (L-mac (L-mult v pitch) code gain) (pos 1))

@@ -5,6 +5,7 @@ ghost use lib.IntN.{pos};
 ghost use Rattle.basicop.specs.Ops.{add, mult};
 ghost use Rattle.excitation.specs.Excitation.{sharpened, sharpening, feedbackAt, feedback, taking};
 use basicop::Q1;
+use basicop::Q13;
 use basicop::Q14;
 use basicop::Q15;
 use copy::copy;
@@ -17,18 +18,18 @@ fn sharper(code: i16, before: i16, doubled: Q15) -> i16
 }
 
 // The innovation with pitch sharpening, by the sharpening of the subframe before. A lag is at least 19.
-pub fn sharpen(innovation: [i16; 40], lag: usize, sharpening: Q14) -> [i16; 40]
+pub fn sharpen(innovation: Q13, lag: usize, sharpening: Q14) -> Q13
     requires { ⌜ (1 ≤ lag) × (lag ≤ 144) ⌝ }
-    ensures { λ r. ⌜ r ≡ sharpened innovation (pos lag) (sharpening .0) ⌝ }
+    ensures { λ r. ⌜ r .0 ≡ sharpened (innovation .0) (pos lag) (sharpening .0) ⌝ }
 {
     let doubled = basicop::doubled(sharpening);
-    let mut code = innovation;
+    let mut code = innovation.0;
     let mut i = lag;
     while i < 40 {
         code[i] = sharper(code[i], code[i - lag], doubled);
         i += 1;
     }
-    code
+    Q13(code)
 }
 
 // The sharpening that the next subframe takes.
@@ -50,12 +51,13 @@ fn fed_back(adaptive: i16, innovation: i16, pitch: Q14, code: Q1) -> i16
 }
 
 // The excitation that is fed back, before any quartering.
-pub fn feedback(adaptive: [i16; 40], innovation: [i16; 40], pitch: Q14, code: Q1) -> [i16; 40]
-    ensures { λ r. ⌜ r ≡ feedback adaptive (pitch .0) innovation (code .0) ⌝ }
+pub fn feedback(adaptive: [i16; 40], innovation: Q13, pitch: Q14, code: Q1) -> [i16; 40]
+    ensures { λ r. ⌜ r ≡ feedback adaptive (pitch .0) (innovation .0) (code .0) ⌝ }
 {
+    let numbers = innovation.0;
     let mut r = [0i16; 40];
     for i in 0..40 {
-        r[i] = fed_back(adaptive[i], innovation[i], pitch, code);
+        r[i] = fed_back(adaptive[i], numbers[i], pitch, code);
     }
     r
 }

@@ -28,7 +28,7 @@ integer z = cond (ltZ z (pos 0)) (0x2D ∷ decimal (natAbs z)) (decimal (natAbs 
 abbrev pub larger : ℤ → ℤ → ℤ
 larger a b = cond (ltZ a b) b a
 
--- the largest of the samples, of which there is at least one
+-- document 01's peak: the largest of the samples, of which there is at least one
 unfoldable pub peakOf : List ℤ → ℤ
 peakOf [] = pos 0
 peakOf (x ∷ xs) = foldl larger x xs
@@ -37,7 +37,7 @@ unfoldable pub anyOf : List Bool → Bool
 anyOf [] = false
 anyOf (flag ∷ flags) = flag || anyOf flags
 
--- L if the peak is 32760 or more; otherwise R if any flag; otherwise -
+-- document 01's mark: L if the peak is 32760 or more; otherwise R if any flag; otherwise -
 unfoldable pub markOf : ℤ → List Bool → ℕ
 markOf peak flags = cond (ltZ peak (pos 32760)) (cond (anyOf flags) 0x52 0x2D) 0x4C
 

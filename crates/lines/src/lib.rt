@@ -20,6 +20,7 @@ pub use marks::peak;
 pub const LINE_ROOM: usize = 128;
 
 // Each is written at the front of the lent bytes, and the answer is its length.
+// An accepted sheet: its number, four flags, peak and mark.
 pub fn frame_line(out: &mut [u8], number: u64, flags: [bool; 4], peak: i32) -> usize
     requires { ⌜ length (now out) ≡ lineRoom ⌝ }
     ensures line { λ r. ⌜ take r (now (out .exit)) ≡ frameLine number flags peak ⌝ }
@@ -34,6 +35,7 @@ pub fn frame_line(out: &mut [u8], number: u64, flags: [bool; 4], peak: i32) -> u
     put(out, e, &rest)
 }
 
+// A refused sheet: its number, `refused`, refusal and place.
 pub fn refused_line(out: &mut [u8], number: u64, refusal: u64, place: usize) -> usize
     requires { ⌜ length (now out) ≡ lineRoom ⌝ }
     ensures line { λ r. ⌜ take r (now (out .exit)) ≡ refusedLine number refusal place ⌝ }
@@ -47,6 +49,7 @@ pub fn refused_line(out: &mut [u8], number: u64, refusal: u64, place: usize) -> 
     put_byte(out, e, b'\n')
 }
 
+// A short last sheet: its number and `cut`.
 pub fn cut_line(out: &mut [u8], number: u64) -> usize
     requires { ⌜ length (now out) ≡ lineRoom ⌝ }
     ensures line { λ r. ⌜ take r (now (out .exit)) ≡ cutLine number ⌝ }
@@ -56,6 +59,7 @@ pub fn cut_line(out: &mut [u8], number: u64) -> usize
     put(out, a, b" cut\n")
 }
 
+// A refused record: `state refused` and the refusal.
 pub fn state_line(out: &mut [u8], refusal: u64) -> usize
     requires { ⌜ length (now out) ≡ lineRoom ⌝ }
     ensures line { λ r. ⌜ take r (now (out .exit)) ≡ stateLine refusal ⌝ }

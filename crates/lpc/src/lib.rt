@@ -99,6 +99,7 @@ fn polynomial(lsp: [i16; 10], offset: usize, degree: usize) -> [i32; 6]
     raise(lower, Q15(lsp[offset + 2 * (degree - 1)]), degree)
 }
 
+// A coefficient (Q12) of a sum (Q24): rounded, and its low 16 bits kept.
 pub fn rounded_coefficient(value: i32) -> i16
     ensures { λ r. ⌜ r ≡ coefficient value ⌝ }
 {
@@ -119,6 +120,7 @@ fn row(f: [i32; 6], g: [i32; 6]) -> [i16; 11]
     r
 }
 
+// Lsp_Az: a row from ten LSPs.
 pub fn convert(lsp: [i16; 10]) -> [i16; 11]
     ensures { λ r. ⌜ r ≡ rowOf lsp ⌝ }
 {
@@ -127,6 +129,7 @@ pub fn convert(lsp: [i16; 10]) -> [i16; 11]
     row(f, g)
 }
 
+// Int_lpc_1to3: the four rows of a frame, from the LSPs of the frame before and its own.
 pub fn interpolate(previous_lsp: [i16; 10], lsp: [i16; 10]) -> Rows
     ensures { λ r. ⌜ r ≡ rowsOf «previous_lsp» lsp ⌝ }
 {

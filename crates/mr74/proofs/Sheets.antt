@@ -38,7 +38,7 @@ four-flags (p ∷ q ∷ r ∷ s ∷ t ∷ ps) e = absurd (omega (arith, e))
 
 -- ---- the inputs
 pub parameters-are : (sheet : List ℤ) (k : ℕ) (lag : PitchLag) {x y : ℤ} {code : List ℤ} → x ≡ at sheet (14 + 2 * k) → y ≡ at sheet (15 + 2 * k) → code ≡ innovationOf sheet k
-    → subframeOf (record { lag = lag; pitch = record { 0 = x }; code = record { 0 = y }; innovation = code }) ≡ subframeAt sheet k (lagOf lag)
+    → subframeOf (record { lag = lag; pitch = record { 0 = x }; code = record { 0 = y }; innovation = record { 0 = code } }) ≡ subframeAt sheet k (lagOf lag)
 parameters-are sheet k lag ex ey ec = λ i. record { lag = lagOf lag; pitch = ex i; code = ey i; innovation = ec i }
 
 pub inputs-are : (sheet : List ℤ) (k l : LagPair) (a b c d : Parameters) {lsfs : List ℤ} → lsfs ≡ lsfsOf sheet → twoLags k ≡ lagPair (at sheet 10) (at sheet 11) → twoLags l ≡ lagPair (at sheet 12) (at sheet 13)

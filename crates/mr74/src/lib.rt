@@ -5,7 +5,8 @@ ghost use Prim.Native.Nat.{ℕ};
 ghost use lib.Dec.{ltb};
 ghost use Rattle.decoder.specs.Inputs.{inputsOf, Usable};
 ghost use Rattle.mr74.specs.Frame.{callResult, frameCall};
-ghost use Rattle.mr74.specs.Inner.{frameOutputOf, refusedAnswer};
+ghost use Rattle.mr74.specs.Sheet.{sheetInputs};
+ghost use Rattle.mr74.specs.Inner.{Ready, frameOutputOf, refusedAnswer};
 
 mod checks;
 mod sheet;
@@ -74,6 +75,14 @@ fn decode(state: State, inputs: Inputs) -> FrameOutput
     }
 }
 
+// The frame of a sheet that its checks have accepted.
+fn decode_sheet(state: State, sheet: &[i16]) -> FrameOutput
+    requires { ⌜ Ready (now sheet) × Usable (sheetInputs (now sheet)) ⌝ }
+    ensures { λ r. ⌜ r ≡ frameOutputOf (sheetInputs (now (sheet .entry))) state ⌝ }
+{
+    decode(state, inputs(sheet))
+}
+
 // Rows all zero, flags 0, the state as it came.
 fn refused(outcome: Outcome, state: State) -> FrameAnswer
     ensures { λ r. ⌜ r ≡ refusedAnswer outcome state ⌝ }
@@ -91,12 +100,14 @@ fn refused(outcome: Outcome, state: State) -> FrameAnswer
     }
 }
 
+// Decodes a frame. Accepted: 160 samples in the lent output; rows, retry flags and the next state come back. Refused, with a number and a place:
+// the lent output keeps its samples, rows and flags are 0, and the state comes back as it came.
 pub fn frame(sheet: &[i16], state: State, out: &mut [i16]) -> FrameAnswer
     ensures { λ r. ⌜ callResult r (now (out .exit)) ≡ frameCall (now (sheet .entry)) state (now (out .entry)) ⌝ }
 {
     let outcome = check_frame(sheet, state, out.len());
     if outcome.accepted() {
-        let decoded = decode(state, inputs(sheet));
+        let decoded = decode_sheet(state, sheet);
         let samples = decoded.samples;
         copy(out, &samples);
         let rows = decoded.rows;

@@ -9,6 +9,7 @@ ghost use Rattle.pitch.specs.Lag.{lagOf};
 ghost use Rattle.mr74.specs.Sheet.{lsfsOf, lagPair, innovationOf, subframeAt, sheetInputs};
 ghost use Rattle.mr74.specs.Inner.{Ready, twoLags};
 use basicop::Q1;
+use basicop::Q13;
 use basicop::Q14;
 use copy::copy;
 use decoder::Inputs;
@@ -54,14 +55,14 @@ fn lags(first: i16, second: i16) -> LagPair
 }
 
 // The forty numbers of a subframe's innovation.
-fn innovation(sheet: &[i16], subframe: usize) -> [i16; 40]
+fn innovation(sheet: &[i16], subframe: usize) -> Q13
     requires { ⌜ (length (now sheet) ≡ 182) × (subframe < 4) ⌝ }
-    ensures { λ r. ⌜ r ≡ innovationOf (now (sheet .entry)) subframe ⌝ }
+    ensures { λ r. ⌜ r .0 ≡ innovationOf (now (sheet .entry)) subframe ⌝ }
 {
     let from = 22 + 40 * subframe;
     let mut r = [0i16; 40];
     copy(&mut r, &sheet[from..from + 40]);
-    r
+    Q13(r)
 }
 
 // What the sheet gives for a subframe, with its lag.

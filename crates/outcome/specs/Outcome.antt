@@ -21,7 +21,7 @@ numberOf BodyShort = 15
 numberOf Sharpening = 16
 numberOf SmoothedGain = 17
 
--- the paper's place
+-- document 01's place of a refusal
 abbrev pub placeOf : Outcome → ℕ
 placeOf Accepted = 0
 placeOf SheetLength = 0
@@ -37,5 +37,6 @@ placeOf BodyShort = 0
 placeOf Sharpening = 0
 placeOf SmoothedGain = 0
 
+-- document 01's "accepted": no check turned the call back
 abbrev pub isAccepted : Outcome → Bool
 isAccepted o = eqb (numberOf o) 0

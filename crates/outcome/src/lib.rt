@@ -55,6 +55,7 @@ impl Outcome {
         }
     }
 
+    // Where the refusal lies; 0 with those that have no place.
     pub fn place(self) -> usize
         ensures { λ r. ⌜ r ≡ placeOf self ⌝ }
     {
@@ -75,6 +76,7 @@ impl Outcome {
         }
     }
 
+    // No check turned the call back.
     pub fn accepted(self) -> bool
         ensures { λ r. ⌜ r ≡ isAccepted self ⌝ }
     {

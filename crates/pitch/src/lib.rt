@@ -16,6 +16,7 @@ pub struct PitchLag {
 }
 
 impl Fraction {
+    // -1, 0 or 1.
     pub fn thirds(self) -> i16
         ensures { λ r. ⌜ r ≡ thirdsOf self ⌝ }
     {

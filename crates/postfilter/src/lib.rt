@@ -136,6 +136,7 @@ fn row_of(rows: Rows, subframe: usize) -> [i16; 11]
     }
 }
 
+// Post_Filter over the four subframes of a frame, from its rows and synthesis samples.
 pub fn process(memory: Postfilter, samples: [i16; 160], rows: Rows) -> FilteredFrame
     ensures { λ r. ⌜ r ≡ postfilterResult memory rows samples .output ⌝ }
 {

@@ -50,6 +50,7 @@ fn residual_sum(a: &[i16; 11], x: &[i16; 50], place: usize, plain: bool) -> i32
     s
 }
 
+// Residu: the residual of forty samples, after the ten before them.
 pub fn residual(numerator: [i16; 11], history: [i16; 10], samples: [i16; 40]) -> [i16; 40]
     ensures { λ r. ⌜ r ≡ residual numerator (history ++ samples) ⌝ }
 {

@@ -48,7 +48,7 @@ unhelds m a xs h = stepNumbers (sample m a) (unheld m a) xs h
 abbrev pub overflowed : ℕ → List ℤ → List ℤ → List ℤ → Bool
 overflowed m a xs h = someListOutside (unhelds m a xs h)
 
--- the first sample in which a step clamped; the number of samples where none did
+-- the place: the first sample in which a step clamped; the number of samples where none did
 abbrev pub overflowedAt : ℕ → List ℤ → List ℤ → List ℤ → ℕ
 overflowedAt m a xs h = firstListOutside (unhelds m a xs h)
 

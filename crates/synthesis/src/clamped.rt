@@ -59,6 +59,7 @@ pub fn first_samples(
     after_history(buf)
 }
 
+// Forty samples, each step clamped, and the history after them.
 pub fn filter(coefficients: [i16; 11], excitation: [i16; 40], history: [i16; 10]) -> Filtered
     ensures { λ r. ⌜ r ≡ filtered coefficients excitation history ⌝ }
 {

@@ -135,6 +135,7 @@ fn first_pass(coefficients: [i16; 11], excitation: [i16; 40], history: [i16; 10]
     Pass { buf, place: 40 }
 }
 
+// The first pass: the place at which a step first leaves 32 bits, and the samples before it.
 pub fn preview(coefficients: [i16; 11], excitation: [i16; 40], history: [i16; 10]) -> Output
     ensures { λ r. ⌜ r ≡ previewed coefficients excitation history ⌝ }
 {

@@ -25,15 +25,15 @@ loop-again : tie.Need-loop-again Inv-loop μ-loop
 loop-again c =
     let l = c .before .before .before .before in
     let e = back w16 {z = at (l .loop .code) (l .loop .i)} (c .before .before .sharper-arg .given) in
-    let b = back w16 {z = at (l .loop .code) (l .loop .i - l .before .before .args .lag)} (c .before .sharper-arg2 .given) in
+    let b = back w16 {z = at (l .loop .code) (l .loop .i - l .before .before .before .args .lag)} (c .before .sharper-arg2 .given) in
     (search needs, sharper-more _ _ _ (l .loop .inv .1) (search needs) (search needs) (search needs) (got w16 (c .sharper .ok) (c .sharper .ensures ∙ rw (e, b))))
 
 returns : tie.Need-returns Inv-loop μ-loop
 unfolding sharpened
 returns c =
-    let s = c .before .before .before in
-    let d = c .before .before .doubled in
-    sharper-done _ _ _ (c .before .loop .inv .1) (search needs) ∙ ap (λ (g : ℤ). iter (grow (sharpenedAt (s .args .innovation) (pos (s .args .lag)) g)) 40 []) (d .ensures)
+    let s = c .before .before .before .before in
+    let d = c .before .before .before .doubled in
+    sharper-done _ _ _ (c .before .loop .inv .1) (search needs) ∙ ap (λ (g : ℤ). iter (grow (sharpenedAt (s .args .innovation .0) (pos (s .args .lag)) g)) 40 []) (d .ensures)
 
 pub sharpen-spec : {M : Type 1} → statement M
 sharpen-spec =

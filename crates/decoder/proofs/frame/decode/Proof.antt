@@ -1,6 +1,6 @@
--- The core of a frame, from LSPs, rows and subframes: decoded-is.
+-- The core of a frame, from LSPs, rows and subframes: core-is.
 use borrow.Author.Needs.{needs}
-use Rattle.decoder.proofs.Subframes.{decoded-is}
+use Rattle.decoder.proofs.Subframes.{core-is}
 use Rattle.decoder.proofs.frame.decode.Statement.{statement}
 use Rattle.decoder.proofs.frame.decode.Tie as tie
 
@@ -9,7 +9,7 @@ returns c =
     let rows = c .before .before .before .before in
     let lsps = rows .before .before in
     let s = lsps .before .before in
-    decoded-is (s .args .core) (s .args .inputs) (lsps .lsf-to-lsp .ensures) (rows .interpolate .ensures) (c .decode-subframes .ensures)
+    core-is (s .args .core) (s .args .inputs) (lsps .lsf-to-lsp .ensures) (rows .interpolate .ensures) (c .decode-subframes .ensures)
 
 pub decode-spec : {M : Type 1} → statement M
 decode-spec =

@@ -1,6 +1,6 @@
--- The subframe step, from excitation, synthesis, sharpening and history: turned-is.
+-- The subframe step, from excitation, synthesis, sharpening and history: subframe-is.
 use borrow.Author.Needs.{needs}
-use Rattle.decoder.proofs.Subframes.{turned-is}
+use Rattle.decoder.proofs.Subframes.{subframe-is}
 use Rattle.decoder.proofs.subframe.decode_subframe.Statement.{statement}
 use Rattle.decoder.proofs.subframe.decode_subframe.Tie as tie
 
@@ -9,7 +9,7 @@ returns c =
     let y = c .before .before .before .before .before in
     let e = y .before .before .before .before in
     let s = e .before .before in
-    turned-is (s .args .core) (s .args .row) (s .args .p) (e .excite .ensures) (y .synthesise .ensures) (c .before .next-sharpening .ensures) (c .newest .ensures)
+    subframe-is (s .args .core) (s .args .row) (s .args .p) (e .excite .ensures) (y .synthesise .ensures) (c .before .next-sharpening .ensures) (c .newest .ensures)
 
 pub decode-subframe-spec : {M : Type 1} → statement M
 decode-subframe-spec =

@@ -1,7 +1,7 @@
--- Feedback and first excitation, from prediction, sharpened innovation and gains: excited-is.
+-- Feedback and first excitation, from prediction, sharpened innovation and gains: excitations-are.
 use borrow.Author.Needs.{needs}
 use Rattle.basicop.proofs.Ints.{arithℤ}
-use Rattle.decoder.proofs.Subframes.{excited-is}
+use Rattle.decoder.proofs.Subframes.{excitations-are}
 use Rattle.decoder.proofs.subframe.excite.Statement.{statement}
 use Rattle.decoder.proofs.subframe.excite.Tie as tie
 
@@ -11,7 +11,7 @@ returns c =
     let g = f .before in
     let v = g .before .before .before in
     let s = v .before .before .before in
-    excited-is (s .args .past) (s .args .sharpening .0) (s .args .p) (v .predict .ensures) (g .sharpen .ensures) (f .feedback .ensures) (c .first-excitation .ensures)
+    excitations-are (s .args .past) (s .args .sharpening .0) (s .args .p) (v .predict .ensures) (g .sharpen .ensures) (f .feedback .ensures) (c .first-excitation .ensures)
 
 pub excite-spec : {M : Type 1} → statement M
 excite-spec =
