@@ -8,10 +8,14 @@ use libc::STDIN_FILENO;
 use libc::STDOUT_FILENO;
 use lines::LINE_ROOM;
 use mr74::FrameAnswer;
+use mr74::SAMPLES;
+use mr74::SHEET;
 use state::State;
 
+const SHEET_BYTES: usize = 2 * SHEET;
+
 // The line of a sheet's answer.
-fn answer_line(out: &mut [u8], number: u64, answer: FrameAnswer, samples: [i16; 160]) -> usize
+fn answer_line(out: &mut [u8], number: u64, answer: FrameAnswer, samples: [i16; SAMPLES]) -> usize
     requires { ⌜ length (now out) ≡ lineRoom ⌝ }
     ensures line { λ r. ⌜ take r (now (out .exit)) ≡ answerLine number (callResult answer samples) ⌝ }
     ensures within { λ r. ⌜ Within r (now (out .exit)) ⌝ }
@@ -37,9 +41,9 @@ fn sheet_line(out: &mut [u8], number: u64, bytes: &[u8], state: State) -> Step
     ensures within { λ r. ⌜ Within (r .count) (now (out .exit)) ⌝ }
     ensures next { λ r. ⌜ r .next ≡ sheetCall (now (bytes .entry)) state .answer .next ⌝ }
 {
-    let mut sheet = [0i16; 182];
+    let mut sheet = [0i16; SHEET];
     coding::fill(&mut sheet, bytes);
-    let mut samples = [0i16; 160];
+    let mut samples = [0i16; SAMPLES];
     let answer = mr74::frame(&sheet, state, &mut samples);
     let count = answer_line(out, number, answer, samples);
     let next = answer.next;
@@ -57,14 +61,14 @@ fn ended(state: State) -> After {
 }
 
 // A sheet of the input: none, cut short, or whole.
-fn turn(state: State, number: u64) -> After {
-    let mut bytes = [0u8; 364];
+fn serve_sheet(state: State, number: u64) -> After {
+    let mut bytes = [0u8; SHEET_BYTES];
     let n = io::read_full(STDIN_FILENO, &mut bytes);
     if n == 0 {
         return ended(state);
     }
     let mut line = [0u8; LINE_ROOM];
-    if n < 364 {
+    if n < SHEET_BYTES {
         let count = lines::cut_line(&mut line, number);
         io::write_all(STDOUT_FILENO, &line[..count]);
         return ended(state);
@@ -84,7 +88,7 @@ fn run(first: State) {
     let mut number: u64 = 0;
     while number < u64::MAX {
         number += 1;
-        let after = turn(state, number);
+        let after = serve_sheet(state, number);
         let next = after.state;
         state = next;
         if !after.more {
@@ -94,7 +98,7 @@ fn run(first: State) {
 }
 
 fn main() {
-    let mut bytes = [0u8; 402];
+    let mut bytes = [0u8; record::RECORD_BYTES];
     let n = io::read_full(STDIN_FILENO, &mut bytes);
     let answer = record::answer_of(&bytes[..n]);
     let outcome = answer.outcome;

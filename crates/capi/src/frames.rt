@@ -10,14 +10,14 @@ use super::FLAGS_BYTES;
 use super::OUT_BYTES;
 use super::ROW_BYTES;
 use super::ROWS_BYTES;
-use super::SAMPLES;
-use super::SHEET;
 use super::SHEET_BYTES;
 use super::THREE_ROWS;
 use super::TWO_ROWS;
 use super::code;
 use lpc::Rows;
 use mr74::FrameAnswer;
+use mr74::SAMPLES;
+use mr74::SHEET;
 use state::State;
 
 // ---- the frame call

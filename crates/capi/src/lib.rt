@@ -8,14 +8,12 @@ mod frames;
 
 use frames::frame_out;
 use frames::give;
+use mr74::SAMPLES;
+use mr74::SHEET;
 use outcome::Outcome;
 
 // How long the buffers are: two bytes for each number, one for each flag.
-const SHEET: usize = 182;
-
 const SHEET_BYTES: usize = 2 * SHEET;
-
-const SAMPLES: usize = 160;
 
 const OUT_BYTES: usize = 2 * SAMPLES;
 

@@ -4,6 +4,8 @@ ghost use Prim.Native.Nat.{_≤_};
 ghost use lib.ListN.{length};
 ghost use Rattle.outcome.specs.Checks.{firstMet};
 ghost use Rattle.mr74.specs.Checks.{lengthChecks, lsfChecks, pitchChecks, gainChecks, sheetChecks, frameOutcome};
+use super::SAMPLES;
+use super::SHEET;
 use outcome::Outcome;
 use state::State;
 
@@ -15,7 +17,7 @@ fn check_lengths(count: usize, numbers: usize, room: usize) -> Outcome
     if numbers != count {
         return Outcome::SheetLength;
     }
-    if room != 160 {
+    if room != SAMPLES {
         return Outcome::OutputLength;
     }
     Outcome::Accepted
@@ -80,7 +82,7 @@ fn check_sheet(sheet: &[i16]) -> Outcome
 pub fn check_frame(sheet: &[i16], state: State, room: usize) -> Outcome
     ensures { λ r. ⌜ r ≡ frameOutcome (now (sheet .entry)) state room ⌝ }
 {
-    let lengths = check_lengths(182, sheet.len(), room);
+    let lengths = check_lengths(SHEET, sheet.len(), room);
     if !lengths.accepted() {
         return lengths;
     }

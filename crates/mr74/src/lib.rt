@@ -19,6 +19,11 @@ use outcome::Outcome;
 use sheet::inputs;
 use state::State;
 
+// The numbers of a sheet, and of the lent output.
+pub const SHEET: usize = 182;
+
+pub const SAMPLES: usize = 160;
+
 // What the frame call gives beside the lent samples.
 pub struct FrameAnswer {
     pub outcome: Outcome,
@@ -44,7 +49,7 @@ fn flags(places: [usize; 4]) -> [bool; 4]
 struct FrameOutput {
     rows: Rows,
     flags: [bool; 4],
-    samples: [i16; 160],
+    samples: [i16; SAMPLES],
     next: State,
 }
 

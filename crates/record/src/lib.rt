@@ -28,7 +28,7 @@ const COUNT: u16 = state::NUMBERS as u16;
 const FIELDS: [i16; 3] = [VERSION as i16, DISTANCE as i16, COUNT as i16];
 
 // A record without a note: the body and the trailer.
-const RECORD_BYTES: usize = BODY_BYTES + TRAILER_BYTES;
+pub const RECORD_BYTES: usize = BODY_BYTES + TRAILER_BYTES;
 
 // The outcome and the state of a read.
 pub struct Answer {
