@@ -35,8 +35,8 @@ module _ (o : Outcome) (inputs : FrameInputs) (s : State) (out : List ℤ) where
   by-refused e = rw e
 
   -- a trace is accepted exactly when no check turns the call back
-  told : accepted (traceBy o inputs s out) ≡ isAccepted o
-  told = decided (isAccepted o) (λ e. ap accepted (by-accepted e)) (λ e. ap accepted (by-refused e))
+  accepted-is : accepted (traceBy o inputs s out) ≡ isAccepted o
+  accepted-is = decided (isAccepted o) (λ e. ap accepted (by-accepted e)) (λ e. ap accepted (by-refused e))
 
 -- ---- an accepted call: its trace is that of usable inputs, and the state's checks let its state pass
 pub record Accepts (s : State) (c : Call) : Type 0 where
@@ -50,7 +50,7 @@ pub accepts : (s : State) (c : Call) → accepted (traceOf s c) ≡ true → Acc
 unfolding frameTrace
 accepts s (FrameCall sheet out) e =
     let o = frameOutcome sheet s (length out) in
-    let a = sym (told o (sheetInputs sheet) s out) ∙ e in
+    let a = sym (accepted-is o (sheetInputs sheet) s out) ∙ e in
     let p = passed sheet s (length out) a in
     record { outcome = o; inputs = sheetInputs sheet; usable = usable p; state = p .state; trace = by-accepted o (sheetInputs sheet) s out a }
 
@@ -64,7 +64,7 @@ pub refuses : (s : State) (c : Call) → accepted (traceOf s c) ≡ false → Re
 unfolding frameTrace
 refuses s (FrameCall sheet out) e =
     let o = frameOutcome sheet s (length out) in
-    record { outcome = o; out = out; trace = by-refused o (sheetInputs sheet) s out (sym (told o (sheetInputs sheet) s out) ∙ e) }
+    record { outcome = o; out = out; trace = by-refused o (sheetInputs sheet) s out (sym (accepted-is o (sheetInputs sheet) s out) ∙ e) }
 
 pub next-refused : (s : State) (c : Call) → accepted (traceOf s c) ≡ false → nextState s c ≡ s
 next-refused s c e = ap (λ (t : Trace). t .next) (refuses s c e .trace)

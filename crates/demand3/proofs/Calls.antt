@@ -19,7 +19,7 @@ use Rattle.calls.proofs.Frames.{held, frame-facts, frame-divisors}
 use Rattle.calls.proofs.Calls.{decided, accepts, refuses}
 use Rattle.demand3.specs.Measure.{Machine, machineAfterSubframes}
 use Rattle.demand3.specs.Demand3.{opening, machineAfterCall, AcceptedCall, RefusedCall}
-use Rattle.demand3.proofs.Machine.{core-beside, core-leaves}
+use Rattle.demand3.proofs.Machine.{core-beside, core-machine}
 
 not-zero : (n : ℕ) → 1 ≤ n → (q : Quotient) → Divides n q → ¬ (q .divisor ≡ pos 0)
 not-zero n h q d e = omega (arithℤ, d .from, e)
@@ -36,7 +36,7 @@ frame-in inputs s u w k o =
       flags = refl;
       rows = r .core .rows;
       subframes = core-beside (s .core) inputs u h;
-      next = sym (core-leaves (s .core) inputs u h);
+      next = sym (core-machine (s .core) inputs u h);
     }
 
 pub call-refused : (s : State) (c : Call) (m : Machine) → accepted (traceOf s c) ≡ false → RefusedCall s (traceOf s c) m

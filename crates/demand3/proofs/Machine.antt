@@ -43,10 +43,10 @@ module _ (f : SynthesisInput) (m : Machine) (l : length (m .history) ≡ 10) whe
   d = synthesisResult f (m .history) (m .past)
 
   -- its samples and its past are the definition's
-  as-made : (b : Bool) → flag ≡ b → (measurement f m .samples ≡ d .samples) × (measurement f m .past ≡ d .past)
+  as-measured : (b : Bool) → flag ≡ b → (measurement f m .samples ≡ d .samples) × (measurement f m .past ≡ d .past)
   unfolding measurement
-  as-made true e = let r = retry f (m .history) (m .past) l in rw e (held-samples (f .row) _ (m .history) ∙ sym (r .retried-samples e), sym (r .retried-past e))
-  as-made false e = let r = retry f (m .history) (m .past) l in rw e (sym (r .unretried-samples e), sym (r .unretried-past e))
+  as-measured true e = let r = retry f (m .history) (m .past) l in rw e (held-samples (f .row) _ (m .history) ∙ sym (r .retried-samples e), sym (r .retried-past e))
+  as-measured false e = let r = retry f (m .history) (m .past) l in rw e (sym (r .unretried-samples e), sym (r .unretried-past e))
 
 -- ---- a subframe step
 abbrev machineOf : Core → Machine
@@ -56,9 +56,9 @@ module _ (c : Core) (row : List ℤ) (p : SubframeInputs) (h : Held c) (u : Usab
   abbrev t : SubframeResult
   t = subframeResult c row p
 
-  turn-measured : length row ≡ 11 → AsMeasured (t .input) (machineOf c) (t .synthesis)
+  subframe-measured : length row ≡ 11 → AsMeasured (t .input) (machineOf c) (t .synthesis)
   unfolding subframeResult
-  turn-measured e =
+  subframe-measured e =
       let k = subframe-facts c row p h u in
       let r = retry (t .input) (c .history) (c .past) (h .history .count) in
       record {
@@ -73,30 +73,30 @@ module _ (c : Core) (row : List ℤ) (p : SubframeInputs) (h : Held c) (u : Usab
         retried-samples = λ y. r .retried-samples (sym (r .flag) ∙ y) ∙ sym (held-samples (t .input .row) _ (c .history)) ∙ ap (λ (x : List ℤ). heldSamples (t .input .row) x (c .history)) (sym (r .retried-feedback (sym (r .flag) ∙ y)));
       }
 
-  turn-leaves : machineAfterSubframe (t .input) (machineOf c) ≡ machineOf (t .next)
+  subframe-machine : machineAfterSubframe (t .input) (machineOf c) ≡ machineOf (t .next)
   unfolding subframeResult
-  turn-leaves =
-      let m = as-made (t .input) (machineOf c) (h .history .count) _ refl in
+  subframe-machine =
+      let m = as-measured (t .input) (machineOf c) (h .history .count) _ refl in
       let n : length (t .synthesis .samples) - 10 ≡ 30 = rw (subframe-facts c row p h u .samples .count) refl in
       λ i. record { history = (ap (drop 30) (m .0) ∙ ap (λ (k : ℕ). drop k (t .synthesis .samples)) (sym n)) i; past = m .1 i }
 
 -- ---- the subframes of a frame
-ran-beside : (c : Core) (rows : List (List ℤ)) (ps : List SubframeInputs) → Held c → Every UsableSubframe ps → Every (λ (row : List ℤ). length row ≡ 11) rows → SubframesAsMeasured (machineOf c) (subframeResults c rows ps)
+subframes-beside : (c : Core) (rows : List (List ℤ)) (ps : List SubframeInputs) → Held c → Every UsableSubframe ps → Every (λ (row : List ℤ). length row ≡ 11) rows → SubframesAsMeasured (machineOf c) (subframeResults c rows ps)
 unfolding subframeResults
-ran-beside c [] ps h u l = tt
-ran-beside c (row ∷ rows) [] h u l = tt
-ran-beside c (row ∷ rows) (p ∷ ps) h u l =
+subframes-beside c [] ps h u l = tt
+subframes-beside c (row ∷ rows) [] h u l = tt
+subframes-beside c (row ∷ rows) (p ∷ ps) h u l =
     let n = subframeResult c row p .next in
-    let r = ran-beside n rows ps (subframe-facts c row p h (u .0) .next .held) (u .1) (l .1) in
-    (turn-measured c row p h (u .0) (l .0), subst (λ (m : Machine). SubframesAsMeasured m (subframeResults n rows ps)) (sym (turn-leaves c row p h (u .0))) r)
+    let r = subframes-beside n rows ps (subframe-facts c row p h (u .0) .next .held) (u .1) (l .1) in
+    (subframe-measured c row p h (u .0) (l .0), subst (λ (m : Machine). SubframesAsMeasured m (subframeResults n rows ps)) (sym (subframe-machine c row p h (u .0))) r)
 
-ran-leaves : (c : Core) (rows : List (List ℤ)) (ps : List SubframeInputs) → Held c → Every UsableSubframe ps → machineAfterSubframes (map (λ (t : SubframeResult). t .input) (subframeResults c rows ps)) (machineOf c) ≡ machineOf (coreAfter c (subframeResults c rows ps))
+subframes-machine : (c : Core) (rows : List (List ℤ)) (ps : List SubframeInputs) → Held c → Every UsableSubframe ps → machineAfterSubframes (map (λ (t : SubframeResult). t .input) (subframeResults c rows ps)) (machineOf c) ≡ machineOf (coreAfter c (subframeResults c rows ps))
 unfolding subframeResults machineAfterSubframes
-ran-leaves c [] ps h u = refl
-ran-leaves c (row ∷ rows) [] h u = refl
-ran-leaves c (row ∷ rows) (p ∷ ps) h u =
+subframes-machine c [] ps h u = refl
+subframes-machine c (row ∷ rows) [] h u = refl
+subframes-machine c (row ∷ rows) (p ∷ ps) h u =
     let n = subframeResult c row p .next in
-    ap (machineAfterSubframes (map (λ (t : SubframeResult). t .input) (subframeResults n rows ps))) (turn-leaves c row p h (u .0)) ∙ ran-leaves n rows ps (subframe-facts c row p h (u .0) .next .held) (u .1)
+    ap (machineAfterSubframes (map (λ (t : SubframeResult). t .input) (subframeResults n rows ps))) (subframe-machine c row p h (u .0)) ∙ subframes-machine n rows ps (subframe-facts c row p h (u .0) .next .held) (u .1)
 
 -- ---- the core of a frame
 module _ (c : Core) (f : FrameInputs) (u : Usable f) (h : Held c) where
@@ -107,8 +107,8 @@ module _ (c : Core) (f : FrameInputs) (u : Usable f) (h : Held c) where
   unfolding coreResult
   core-beside =
       let r = rows-are (c .lsp) (lspsOf (f .lsfs)) in
-      ran-beside (openedCore c f) (rowList (coreResult c f .rows)) (f .subframes) opens (u .subframes) (r .0 .eleven, (r .1 .0 .eleven, (r .1 .1 .0 .eleven, (r .1 .1 .1 .eleven, tt))))
+      subframes-beside (openedCore c f) (rowList (coreResult c f .rows)) (f .subframes) opens (u .subframes) (r .0 .eleven, (r .1 .0 .eleven, (r .1 .1 .0 .eleven, (r .1 .1 .1 .eleven, tt))))
 
-  pub core-leaves : machineAfterSubframes (map (λ (t : SubframeResult). t .input) (coreResult c f .subframes)) (machineOf c) ≡ machineOf (coreResult c f .next)
+  pub core-machine : machineAfterSubframes (map (λ (t : SubframeResult). t .input) (coreResult c f .subframes)) (machineOf c) ≡ machineOf (coreResult c f .next)
   unfolding coreResult
-  core-leaves = ran-leaves (openedCore c f) (rowList (coreResult c f .rows)) (f .subframes) opens (u .subframes)
+  core-machine = subframes-machine (openedCore c f) (rowList (coreResult c f .rows)) (f .subframes) opens (u .subframes)

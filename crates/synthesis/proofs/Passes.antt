@@ -65,19 +65,19 @@ unfolding stepNumbers someListOutside
 passing-none r = record { run = r; none = refl }
 
 -- one sample: o is the flag of all its numbers, v what the last one gives
-pub record Told (a : List ℤ) (x : ℤ) (y : List ℤ) (o : Bool) (v : ℤ) : Type 0 where
+pub record SampleIs (a : List ℤ) (x : ℤ) (y : List ℤ) (o : Bool) (v : ℤ) : Type 0 where
   pub flag : o ≡ someOutside (unheld 10 a x y)
   pub value : o ≡ false → v ≡ sample 10 a x y
 
-pub told : {a : List ℤ} {x : ℤ} {y : List ℤ} {s v : ℤ} {t o : Bool} → Halved a x y 10 s t → Ended (pos 2 *ℤ s) t v o → Told a x y o v
-told {a} {x} {y} {s} {v} {t} {o} r q =
+pub sample-is : {a : List ℤ} {x : ℤ} {y : List ℤ} {s v : ℤ} {t o : Bool} → Halved a x y 10 s t → Ended (pos 2 *ℤ s) t v o → SampleIs a x y o v
+sample-is {a} {x} {y} {s} {v} {t} {o} r q =
     let w : o ≡ someOutside (wholes 10 a x y) = q .flag ∙ or-same t (someOutside (sums a x y 10)) _ _ (r .flag) (λ e. rw (r .is (r .flag ∙ e))) ∙ sym (leaves-two (sums a x y 10) (sum a x y 10 *ℤ pos 8) (sum a x y 10 *ℤ pos 8 +ℤ pos 32768)) in
     record {
       flag = w ∙ sym (unheld-same a x y 10);
       value = λ e. q .value e ∙ rw (r .is (or-left t _ (sym (q .flag) ∙ e))) (sym (sample-same a x y 10 (sym w ∙ e)));
     }
 
-module _ {a x h buf : List ℤ} {n : ℕ} {o : Bool} {v : ℤ} (r : Passing a x h buf n) (l : n < 40) (q : Told a (at x n) (take (n + 10) buf) o v) where
+module _ {a x h buf : List ℤ} {n : ℕ} {o : Bool} {v : ℤ} (r : Passing a x h buf n) (l : n < 40) (q : SampleIs a (at x n) (take (n + 10) buf) o v) where
   numbers : stepNumbers (sample 10 a) (unheld 10 a) x h ≡ unhelds 10 a (take n x) h ++ unhelds 10 a (drop n x) (take (n + 10) buf)
   numbers = sym (ap (λ (z : List ℤ). unhelds 10 a z h) (take-append-drop n x)) ∙ numbers-append (sample 10 a) (unheld 10 a) (take n x) (drop n x) h ∙ rw (r .run .made)
 

@@ -8,7 +8,7 @@ use mir.Syntax.{w16, w64}
 use mir.Val.{toZ, ofZ}
 use Rattle.lists.specs.Lists.{at}
 use Rattle.lists.proofs.Signed.{back}
-use Rattle.synthesis.proofs.Passes.{feeding-none, feeding-done, Passing, passing-none, Told, told, passing-more, passing-left, passing-done}
+use Rattle.synthesis.proofs.Passes.{feeding-none, feeding-done, Passing, passing-none, SampleIs, sample-is, passing-more, passing-left, passing-done}
 use Rattle.synthesis.proofs.whole.first_pass.Statement.{statement}
 use Rattle.synthesis.proofs.whole.first_pass.Tie as tie
 
@@ -36,8 +36,8 @@ returns c =
     let h = l .before .roomed .ensures .1 in
     let x = back w16 {z = at (a .t2) (l .loop .n)} (p .before .before .summed-arg .given) in
     let g : toZ w64 (ofZ w64 (p .summed .result .half)) ≡ p .summed .result .half = search needs in
-    let t : Told (a .t1) (at (a .t2) (l .loop .n)) (take (l .loop .n + 10) (l .loop .buf)) (m .ended .result .out) (m .ended .result .y) =
-    told (rw x at (p .summed .ensures)) (rw g at (m .ended .ensures)) in
+    let t : SampleIs (a .t1) (at (a .t2) (l .loop .n)) (take (l .loop .n + 10) (l .loop .buf)) (m .ended .result .out) (m .ended .result .y) =
+    sample-is (rw x at (p .summed .ensures)) (rw g at (m .ended .ensures)) in
     (rw h at (passing-left (l .loop .inv .1) (search needs) t (c .if1 .taken)), rw h at (feeding-done (l .loop .inv .1 .run)))
 
 loop-again : tie.Need-loop-again Inv-loop μ-loop
@@ -49,8 +49,8 @@ loop-again c =
     let x = back w16 {z = at (a .t2) (l .loop .n)} (p .before .before .summed-arg .given) in
     let g : toZ w64 (ofZ w64 (p .summed .result .half)) ≡ p .summed .result .half = search needs in
     let y : toZ w16 (ofZ w16 (m .ended .result .y)) ≡ m .ended .result .y = search needs in
-    let t : Told (a .t1) (at (a .t2) (l .loop .n)) (take (l .loop .n + 10) (l .loop .buf)) (m .ended .result .out) (m .ended .result .y) =
-    told (rw x at (p .summed .ensures)) (rw g at (m .ended .ensures)) in
+    let t : SampleIs (a .t1) (at (a .t2) (l .loop .n)) (take (l .loop .n + 10) (l .loop .buf)) (m .ended .result .out) (m .ended .result .y) =
+    sample-is (rw x at (p .summed .ensures)) (rw g at (m .ended .ensures)) in
     (search needs, rw y (passing-more (l .loop .inv .1) (search needs) t (c .before .if1 .left)))
 
 returns-2 : tie.Need-returns-2 Inv-loop μ-loop
