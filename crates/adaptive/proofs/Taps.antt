@@ -1,4 +1,4 @@
--- The taps of a phase, in the order of the samples, and the allTaps of all three phases. Assumes nothing.
+-- The taps of a phase, in the order of the samples, and those of all three phases. Assumes nothing.
 use mathlib.Core.Path.{_≡_, sym, _∙_}
 use mathlib.Core.Bool.{Bool}
 use mathlib.Core.List.{List, _++_}
@@ -27,12 +27,12 @@ tap-left f j l = rw (lt-ltb j 10 l)
 pub tap-right : (f j : ℕ) → f ≤ 6 → 10 ≤ j → at inter6 (6 - f + 6 * (j - 10)) ≡ tap f j
 tap-right f j h l = rw (le-ltb j 10 l, minus 6 f h)
 
--- the three allTaps, each put in after the one before
+-- the taps of the three phases, each put in after the one before
 pub rows-done : (a b c : List ℤ) → take 20 a ≡ phaseTaps 0 → take 40 b ≡ take 20 a ++ phaseTaps 2 → take 60 c ≡ take 40 b ++ phaseTaps 4 → length c ≡ 60 → c ≡ allTaps
 unfolding allTaps
 rows-done a b c e f g l = sym (take-all 60 c (omega (arith, l))) ∙ g ∙ rw (f, e)
 
--- ---- the phaseTaps of phase f: its coefficients, and the sum of their sizes
+-- ---- the taps of phase f: its coefficients, and the sum of their sizes
 pub record Row (taps : List ℤ) (f : ℕ) : Type 0 where
   pub left : (i : ℕ) → i < 10 → leftOf taps (10 * f) i ≡ coefficient (pos f) i
   pub right : (i : ℕ) → i < 10 → rightOf taps (10 * f) i ≡ coefficient (pos 6 -ℤ pos f) i

@@ -1,5 +1,5 @@
--- For inner functions: what the code's plain sums rest on: taps in the order of the samples, the sizes of a phaseTaps's taps, and which numbers are large.
--- A light phaseTaps over numbers that are not large comes to at most 2 × 16384 × 65535, which is below 2 ^ 31: no L_mac clamps.
+-- For inner functions: what the code's plain sums rest on: taps in the order of the samples, the sizes of a phase's taps, and which numbers are large.
+-- The taps of a light phase over numbers that are not large come to at most 2 × 16384 × 65535, which is below 2 ^ 31: no L_mac clamps.
 use mathlib.Core.Path.{_≡_}
 use mathlib.Core.Bool.{Bool, true, false, cond, not, _&&_, _||_}
 use mathlib.Core.List.{List, _++_, foldl}
@@ -19,18 +19,18 @@ tap f j = cond (ltb j 10) (coefficient (pos f) (9 - j)) (coefficient (pos 6 -ℤ
 abbrev pub phaseTaps : ℕ → List ℤ
 phaseTaps f = tab (tap f) 20
 
--- the allTaps of the phases 0, 2 and 4: that of phase f starts at 10 f
+-- those of the phases 0, 2 and 4: those of phase f start at 10 f
 unfoldable pub allTaps : List ℤ
 allTaps = (phaseTaps 0 ++ phaseTaps 2) ++ phaseTaps 4
 
--- coefficient i of each side, of the phaseTaps that starts at n
+-- coefficient i of each side, of the taps that start at n
 abbrev pub leftOf : List ℤ → ℕ → ℕ → ℤ
 leftOf taps n i = at taps (n + 9 - i)
 
 abbrev pub rightOf : List ℤ → ℕ → ℕ → ℤ
 rightOf taps n i = at taps (n + 10 + i)
 
--- the phaseTaps that starts at n is light: the sizes of its coefficients come to less than 65536
+-- the taps that start at n are light: their sizes come to less than 65536
 abbrev pub Light : List ℤ → ℕ → Type 0
 Light taps n = sizes (leftOf taps n) 10 + sizes (rightOf taps n) 10 < 65536
 

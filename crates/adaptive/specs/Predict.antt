@@ -39,7 +39,7 @@ start l = cond (back l) ((pos 154 -ℤ l .samples) -ℤ pos 1) (pos 154 -ℤ l .
 abbrev pub coefficient : ℤ → ℕ → ℤ
 coefficient f i = entry inter6 (f +ℤ pos (6 * i))
 
--- tapPair i of a sample, with coefficients c to the left and d to the right: x[left - i] by c, then x[left + 1 + i] by d
+-- step i of a sample, with coefficients c to the left and d to the right: x[left - i] by c, then x[left + 1 + i] by d
 abbrev pub tapPair : List ℤ → ℤ → (ℕ → ℤ) → (ℕ → ℤ) → ℕ → ℤ → ℤ
 tapPair x left c d i s = L-mac (L-mac s (entry x (left -ℤ pos i)) (c i)) (entry x ((left +ℤ pos 1) +ℤ pos i)) (d i)
 

@@ -6,7 +6,7 @@ ghost use lib.IntN.{pos};
 ghost use lib.ListN.{take};
 ghost use Rattle.pitch.specs.Lag.{lagOf};
 ghost use Rattle.adaptive.specs.Predict.{interpolated, extended, predicted};
-ghost use Rattle.adaptive.specs.Inner.{phaseTaps, leftOf, rightOf, Light, large, quiet, Quiet};
+ghost use Rattle.adaptive.specs.Inner.{leftOf, rightOf, Light, large, quiet, Quiet};
 
 mod phases;
 

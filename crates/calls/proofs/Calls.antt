@@ -78,18 +78,18 @@ module _ (s : State) (c : Call) (w : WellFormed s) (e : accepted (traceOf s c) �
   result : FrameFacts (accepts s c e .inputs) s
   result = let a = accepts s c e in frame-facts (a .inputs) s (a .usable) w (a .state)
 
-  pub next-left : NextFacts (nextState s c)
-  next-left = subst (λ (t : Trace). NextFacts (t .next)) (sym (accepts s c e .trace)) (result .left)
+  pub next-facts : NextFacts (nextState s c)
+  next-facts = subst (λ (t : Trace). NextFacts (t .next)) (sym (accepts s c e .trace)) (result .next)
 
   -- the state's checks accept it
   pub next-accepted : stateOutcome (nextState s c) ≡ Accepted
-  next-accepted = in-range-accepted (nextState s c) (next-left .passes)
+  next-accepted = in-range-accepted (nextState s c) (next-facts .passes)
 
   -- after a retried last subframe
   pub next-small : getD (traceOf s c .flags) 3 false ≡ true → SmallPast (nextState s c)
   next-small =
       subst (λ (t : Trace). getD (t .flags) 3 false ≡ true → SmallPast (t .next)) (sym (accepts s c e .trace))
-      (λ f. (result .left .well-formed .past .count, result .core .small f))
+      (λ f. (result .next .well-formed .past .count, result .core .small f))
 
 pub next-well-formed : (s : State) (c : Call) → WellFormed s → WellFormed (nextState s c)
-next-well-formed s c w = decided (accepted (traceOf s c)) (λ e. next-left s c w e .well-formed) (λ e. subst WellFormed (sym (next-refused s c e)) w)
+next-well-formed s c w = decided (accepted (traceOf s c)) (λ e. next-facts s c w e .well-formed) (λ e. subst WellFormed (sym (next-refused s c e)) w)

@@ -1,5 +1,4 @@
 -- What a frame gives, of usable inputs and a state that the checks let pass: ranges, divisors, and a well-formed state that they let pass. Assumes nothing.
-use mathlib.Core.Path.{_≡_}
 use lib.Dec.{lit≤}
 use lib.IntN.{ℤ, pos}
 use lib.Signed.{_≤ℤ_, leZ-yes}
@@ -37,7 +36,7 @@ pub record NextFacts (s : State) : Type 0 where
 pub record FrameFacts (inputs : FrameInputs) (s : State) : Type 0 where
   pub core : CoreFacts (lspsOf (inputs .lsfs)) (coreResultOf inputs s)
   pub post : Framed 512 4 (postResultOf inputs s)
-  pub left : NextFacts (nextStateOf inputs s)
+  pub next : NextFacts (nextStateOf inputs s)
 
 module _ (inputs : FrameInputs) (s : State) (u : Usable inputs) (w : WellFormed s) (k : InRange s) where
   pub held : Held (s .core)
@@ -53,7 +52,7 @@ module _ (inputs : FrameInputs) (s : State) (u : Usable inputs) (w : WellFormed 
       record {
         core = c;
         post = framed-rows (s .post) (coreResultOf inputs s .rows) ys (rows-first (s .core .lsp) (lspsOf (inputs .lsfs)));
-        left = record {
+        next = record {
           well-formed = record {
             lsp = rw (c .next .lsp) (words-map lspOf lsp-fits (inputs .lsfs) (u .ten));
             past = c .next .held .past;

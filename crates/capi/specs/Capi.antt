@@ -134,7 +134,7 @@ writeBytes state lent =
     let w = writeCall (stateIn state) lent in
     cond (eqb (length state) stateLength) (writeReturn (codeOf (w .outcome)) (w .lent)) (writeReturn unfit lent)
 
--- ---- what a caller may rely on; the theorem is `kept` in proofs/RefusedUnchanged.antt
+-- ---- what a caller may rely on; the theorem is `refused-unchanged` in proofs/Unchanged.antt
 -- a frame call that returns another number than 0 leaves the lent state and output as they were
 abbrev pub RefusedUnchanged : Type 0
 RefusedUnchanged =

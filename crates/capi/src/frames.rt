@@ -20,7 +20,6 @@ use mr74::SAMPLES;
 use mr74::SHEET;
 use state::State;
 
-// ---- the frame call
 // The sheet's numbers, as many as are returned: all, or none where it has another length.
 fn sheet_in(sheet: &[u8], numbers: &mut [i16]) -> usize
     requires { ⌜ length (now numbers) ≡ sheetCount ⌝ }

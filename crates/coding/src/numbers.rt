@@ -4,7 +4,6 @@ ghost use Prim.Native.Nat.{_*_};
 ghost use lib.ListN.{length};
 ghost use Rattle.coding.specs.Bytes.{signed16, bits16, unsigned, words, bytesOf};
 
-// ---- numbers of 16 bits as bytes, low byte first
 // Two bytes as a number from 0.
 pub fn unsigned(low: u8, high: u8) -> u16
     ensures { λ r. ⌜ r ≡ unsigned low high ⌝ }

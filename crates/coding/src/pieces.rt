@@ -8,7 +8,6 @@ use super::numbers::fill;
 use super::numbers::put;
 use state::PAST;
 
-// ---- parts of a body, each an array
 pub fn ten_in(bytes: &[u8]) -> [i16; 10]
     requires { ⌜ length (now bytes) ≡ 2 * 10 ⌝ }
     ensures { λ r. ⌜ r ≡ words (now (bytes .entry)) ⌝ }

@@ -34,7 +34,7 @@ unretriedResult f history past =
       past = taking past (f .feedback);
     }
 
--- Overflow: feedback and past are each >> 2, and Syn_filt runs retriedResult on that feedback, from the same history; its own clamps are not reported
+-- Overflow: feedback and past are each >> 2, and Syn_filt runs again on that feedback, from the same history; its own clamps are not reported
 abbrev pub retriedResult : SynthesisInput → List ℤ → List ℤ → SynthesisResult
 retriedResult f history past =
     record {

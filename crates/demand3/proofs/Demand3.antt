@@ -8,7 +8,7 @@ use Rattle.basicop.proofs.Ints.{≤ℤ-trans}
 use Rattle.state.specs.declared.State.{State}
 use Rattle.state.specs.State.{WellFormed}
 use Rattle.calls.specs.Calls.{Call, nextState}
-use Rattle.calls.proofs.Calls.{next-left, next-well-formed}
+use Rattle.calls.proofs.Calls.{next-facts, next-well-formed}
 use Rattle.calls.proofs.Lists.{once, latest}
 use Rattle.demand3.specs.Measure.{Machine}
 use Rattle.demand3.specs.Demand3.{In, opening, EachCall, Demand3, Demand3-holds}
@@ -24,8 +24,8 @@ each (c ∷ cs) s w =
 pub demand-3-any : (s : State) → WellFormed s → (cs : List Call) → Demand3 s cs
 demand-3-any s w cs =
     record {
-      sharpening = once (λ (t : State). In (pos 0) (pos 13017) (t .core .sharpening .0)) (λ s c w e. let k = next-left s c w e .passes in (k .from, k .to)) cs s w;
-      gain = once (λ (t : State). In (pos 0) (pos 32765) (t .post .gain .«previous_gain»)) (λ s c w e. let l = next-left s c w e in (l .passes .gain, ≤ℤ-trans (l .gain) (leZ-yes tt))) cs s w;
+      sharpening = once (λ (t : State). In (pos 0) (pos 13017) (t .core .sharpening .0)) (λ s c w e. let k = next-facts s c w e .passes in (k .from, k .to)) cs s w;
+      gain = once (λ (t : State). In (pos 0) (pos 32765) (t .post .gain .«previous_gain»)) (λ s c w e. let l = next-facts s c w e in (l .passes .gain, ≤ℤ-trans (l .gain) (leZ-yes tt))) cs s w;
       past = latest cs s false w (λ e. absurd (true≢false (sym e)));
       calls = each cs s w;
     }

@@ -28,7 +28,7 @@ pub record AsMeasured (f : SynthesisInput) (m : Machine) (d : SynthesisResult) :
   pub input : (length (f .feedback) ≡ 40) × (length (f .excitation) ≡ 40)
   pub machine : (length (m .history) ≡ 10) × (length (m .past) ≡ 154)
   pub forty : length (d .samples) ≡ 40
-  -- "A subframe's flag is 1, retried, exactly when document 01's whole-number recurrence, unclamped, on its first excitation machineAfterSubframe 32 signed bits at some step."
+  -- "A subframe's flag is 1, retried, exactly when document 01's whole-number recurrence, unclamped, on its first excitation leaves 32 signed bits at some step."
   pub flag : d .retried ≡ retried 10 (f .row) (f .excitation) (m .history)
   -- "Unretried, its forty synthesis samples are that recurrence's."
   pub samples : d .retried ≡ false → d .samples ≡ wholeSamples 10 (f .row) (f .excitation) (m .history)
@@ -67,7 +67,7 @@ pub record AcceptedCall (t : Trace) (m : Machine) : Type 0 where
   -- and the state given back has the history and the past that the machine is left with
   pub next : opening (t .next) ≡ machineAfterCall m t
 
--- ---- a refused call, on the state s: "A refused call has no subframe and machineAfterSubframe both."
+-- ---- a refused call, on the state s: "A refused call has no subframe and leaves both."
 pub record RefusedCall (s : State) (t : Trace) (m : Machine) : Type 0 where
   pub none : t .subframes ≡ []
   pub machine : machineAfterCall m t ≡ m

@@ -38,7 +38,7 @@ pub record Machine : Type 0 where
   pub history : List ℤ
   pub past : List ℤ
 
--- what it makes of a subframe that is recursion a row, feedback and first excitation
+-- what it makes of a subframe that is fed a row, feedback and first excitation
 pub record Measurement : Type 0 where
   pub retried : Bool
   pub samples : List ℤ
@@ -76,7 +76,7 @@ measurement f m = cond (retried 10 (f .row) (f .excitation) (m .history)) (retri
 abbrev pub machineAfterSubframe : SynthesisInput → Machine → Machine
 machineAfterSubframe f m = record { history = drop 30 (measurement f m .samples); past = measurement f m .past }
 
--- after several subframes; a refused call has none and machineAfterSubframe both
+-- after several subframes; a refused call has none and leaves both
 unfoldable pub machineAfterSubframes : List SynthesisInput → Machine → Machine
 machineAfterSubframes [] m = m
 machineAfterSubframes (f ∷ fs) m = machineAfterSubframes fs (machineAfterSubframe f m)

@@ -1,6 +1,6 @@
 // The excitation of a subframe: sharpening, feedback and the past.
 ghost use mathlib.Core.Path.{_≡_};
-ghost use Prim.Native.Nat.{_<_, _≤_};
+ghost use Prim.Native.Nat.{_≤_};
 ghost use lib.IntN.{pos};
 ghost use Rattle.basicop.specs.Ops.{add, mult};
 ghost use Rattle.excitation.specs.Excitation.{sharpened, sharpening, feedbackAt, feedback, taking};

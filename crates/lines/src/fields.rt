@@ -7,8 +7,6 @@ ghost use lib.ListN.{length};
 ghost use Rattle.lines.specs.Lines.{decimal, integer, flagDigit};
 ghost use Rattle.lines.specs.Put.{Put};
 
-// ---- fields
-// What is put comes after the first `at` bytes, and the answer is where it ends.
 pub fn put_byte(out: &mut [u8], at: usize, byte: u8) -> usize
     requires { ⌜ at < length (now out) ⌝ }
     ensures { λ r. ⌜ Put (now (out .entry)) at (byte ∷ []) r (now (out .exit)) ⌝ }

@@ -2,7 +2,6 @@
 ghost use mathlib.Core.Path.{_≡_};
 ghost use Rattle.lines.specs.Lines.{larger, peakOf, anyOf, markOf};
 
-// ---- peak and mark
 fn larger(a: i32, b: i32) -> i32
     ensures { λ r. ⌜ r ≡ larger a b ⌝ }
 {

@@ -43,7 +43,7 @@ pub record Trace : Type 0 where
   pub tilts : List ℤ
   -- every quotient that was taken, with its divisor
   pub quotients : List Quotient
-  -- the lent output afterwards, and the state resultOf back
+  -- the lent output afterwards, and the state given back
   pub output : List ℤ
   pub next : State
 

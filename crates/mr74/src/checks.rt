@@ -9,7 +9,6 @@ use super::SHEET;
 use outcome::Outcome;
 use state::State;
 
-// ---- what turns a call back
 // 1 and 5: the sheet's count of numbers, and the room for samples.
 fn check_lengths(count: usize, numbers: usize, room: usize) -> Outcome
     ensures { λ r. ⌜ r ≡ firstMet (lengthChecks count numbers room) ⌝ }

@@ -16,7 +16,6 @@ use decoder::Inputs;
 use decoder::Parameters;
 use pitch::PitchLag;
 
-// ---- the sheet
 // The ten LSFs.
 fn lsfs(sheet: &[i16]) -> [i16; 10]
     requires { ⌜ length (now sheet) ≡ 182 ⌝ }

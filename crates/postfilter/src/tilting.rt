@@ -11,7 +11,6 @@ use basicop::l_mac;
 use basicop::mult;
 use copy::copy;
 
-// ---- the tilt
 // A row, and zeros after it.
 fn padded(row: [i16; 11]) -> [i16; 40]
     ensures { λ r. ⌜ r ≡ row ++ replicate 29 (pos 0) ⌝ }

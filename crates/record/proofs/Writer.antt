@@ -1,4 +1,4 @@
--- A record is writeResult part by part, and the writer's definition, case by case. Assumes nothing.
+-- A record is written part by part, and the writer's definition, case by case. Assumes nothing.
 use mathlib.Core.Path.{_≡_, refl, ap, _∙_}
 use mathlib.Core.Bool.{true, false}
 use mathlib.Core.List.{List, [], _∷_, _++_}

@@ -23,7 +23,7 @@ pub record Trailer : Type 0 where
   pub distance : ℕ
   pub count : ℕ
 
--- the versions that are read; the first is the one that is writeResult
+-- the versions that are read; the first is the one that is written
 abbrev pub current : Trailer
 current = record { version = 1; distance = bodyLength; count = stateCount }
 

@@ -12,7 +12,6 @@ use coding::BODY_BYTES;
 use outcome::Outcome;
 use state::State;
 
-// ---- the reader
 // 11: under 8 bytes.
 fn check_size(size: usize) -> Outcome
     ensures { λ r. ⌜ r ≡ firstMet (sizeChecks size) ⌝ }

@@ -1,4 +1,4 @@
--- The recursion that is recursion its own samples: its length, how it goes on, and two of them beside each other. Assumes nothing.
+-- The recursion that is fed its own samples: its length, how it goes on, and two of them beside each other. Assumes nothing.
 use Prim.Native.Nat.{ℕ, zero, suc, _+_, _<_, _≤_}
 use mathlib.Core.Path.{_≡_, refl, sym, ap, _∙_}
 use mathlib.Core.Bool.{Bool, true, false, cond}

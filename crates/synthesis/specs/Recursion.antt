@@ -1,4 +1,4 @@
--- A recursion that is recursion its own samples, and the first of its samples at which a number someOutside the range of 32 bits:
+-- A recursion that is fed its own samples, and the first of its samples at which a number leaves the range of 32 bits:
 -- what both machines of document 01 are written with (Synthesis.antt: clamped steps; Whole.antt: whole numbers).
 use Prim.Native.Nat.{ℕ, suc, _-_}
 use mathlib.Core.Bool.{Bool, false, _||_, cond}

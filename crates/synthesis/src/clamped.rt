@@ -16,7 +16,6 @@ use basicop::l_mult;
 use basicop::l_shl;
 use basicop::round;
 
-// ---- clamped steps
 // The sum for the sample at place `at` of the buffer.
 fn accumulated(a: &[i16; 11], x: i16, buf: &[i16; 50], at: usize) -> i32
     requires { ⌜ (length (now buf) ≡ 50) × ((10 ≤ at) × (at < 50)) ⌝ }

@@ -13,7 +13,6 @@ use super::buffer::after_history;
 use super::buffer::roomed;
 use super::weighing::light;
 
-// ---- whole numbers: up to the sum they are even, and are kept at half their size
 // z lies outside the range of an i32
 fn outside(z: i64) -> bool
     ensures { λ r. ⌜ r ≡ outside z ⌝ }

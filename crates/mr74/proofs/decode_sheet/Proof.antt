@@ -1,6 +1,5 @@
 -- `decode_sheet` meets its contract: the sheet's inputs are decoded.
 use mathlib.Core.Path.{ap, sym, _∙_, subst}
-use borrow.Author.Needs.{needs}
 use Rattle.decoder.specs.Inputs.{FrameInputs, Usable}
 use Rattle.mr74.specs.Inner.{frameOutputOf}
 use Rattle.mr74.proofs.decode_sheet.Statement.{statement}

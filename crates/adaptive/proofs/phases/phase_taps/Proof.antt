@@ -1,4 +1,4 @@
--- `adaptive::phaseTaps` meets its contract: the first j taps are those of the phase.
+-- `adaptive::phase_taps` meets its contract: the first j taps are those of the phase.
 use mathlib.Core.Path.{_∙_}
 use Prim.Native.Nat.{_≤_, _-_}
 use borrow.Author.Needs.{needs}
