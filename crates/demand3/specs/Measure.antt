@@ -1,4 +1,5 @@
--- The machine of whole numbers: document 01, "What demand 3 measures by". It knows no operator of the definition, only +, -, ×, >> and the range of 32 bits.
+-- The machine of whole numbers: document 01, "What demand 3 measures by". It knows no operator of the definition, only +, -, ×, >> and the range of 32 bits;
+-- how samples follow one another (`recursion`) it shares with it.
 -- Its unclamped steps are synthesis/specs/Whole.antt.
 -- a: the row a0..a10; x: x(n); y: the samples before y(n), the last of them y(n - 1).
 use Prim.Native.Nat.{ℕ, zero, suc}
