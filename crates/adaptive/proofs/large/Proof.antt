@@ -1,3 +1,4 @@
+-- `adaptive::large` meets its contract: its two tests are the definition's.
 use mir.Facts.{toZ-ofZ}
 use Rattle.adaptive.specs.Inner.{large}
 use Rattle.adaptive.proofs.large.Statement.{statement}

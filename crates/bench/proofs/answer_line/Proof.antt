@@ -1,3 +1,4 @@
+-- `bench::answer_line` meets its contract: by the outcome, the line of the frame with its peak or that of the refusal.
 use mathlib.Core.Path.{sym, _∙_}
 use borrow.Author.Needs.{needs}
 use lib.ListN.{take}

@@ -1,3 +1,4 @@
+-- `bench::run` keeps every bound: the count of sheets stays below `u64::MAX` before each turn, and what is left of it falls.
 use Prim.Native.Nat.{_-_}
 use borrow.Author.Needs.{needs}
 use Rattle.bench.proofs.run.Statement.{statement}

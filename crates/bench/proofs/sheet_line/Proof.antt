@@ -1,3 +1,4 @@
+-- `bench::sheet_line` meets its contract: the numbers of the bytes are called with 160 zeros lent, and the line is that of the answer.
 use mathlib.Core.Path.{ap, _∙_}
 use borrow.Author.Needs.{needs}
 use Rattle.mr74.specs.Frame.{CallResult, callResult}

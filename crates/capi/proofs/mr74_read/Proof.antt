@@ -1,3 +1,4 @@
+-- `capi::mr74_read` meets its contract: what does not fit is left; else the reader's state and note are given, and the place is low enough for the code.
 use borrow.Author.Needs.{needs}
 use mathlib.Core.Path.{refl}
 use denote.Ref.{now}

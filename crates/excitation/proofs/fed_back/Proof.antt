@@ -1,3 +1,4 @@
+-- `excitation::fed_back` meets its contract: the calls are the definition's.
 use borrow.Author.Needs.{needs}
 use Rattle.basicop.proofs.Calls.{callsℤ}
 use Rattle.excitation.proofs.fed_back.Statement.{statement}

@@ -1,3 +1,4 @@
+-- `excitation::next_sharpening` meets its contract: the difference from 13017, clamped, is above 0 just where the gain is above 13017.
 use mathlib.Core.Path.{_≡_}
 use mathlib.Core.Bool.{true, false}
 use borrow.Author.Needs.{needs}

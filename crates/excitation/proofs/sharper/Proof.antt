@@ -1,3 +1,4 @@
+-- `excitation::sharper` meets its contract: the calls are the definition's.
 use borrow.Author.Needs.{needs}
 use Rattle.basicop.proofs.Calls.{callsℤ}
 use Rattle.excitation.proofs.sharper.Statement.{statement}

@@ -1,3 +1,4 @@
+-- `polynomial` meets its contract: degree 1 is the definition's, each further degree is raised from the one below, and the degree falls.
 use Prim.Native.Nat.{ℕ, _<_}
 use borrow.Author.Needs.{needs}
 use borrow.Fn.Kinds.{In}

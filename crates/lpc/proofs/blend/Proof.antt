@@ -1,3 +1,4 @@
+-- `lpc::blend` meets its contract: after k turns the first k LSPs are those of the subframe.
 use Prim.Native.Nat.{_≤_, _-_}
 use borrow.Author.Needs.{needs}
 use mathlib.Core.Path.{ap₂, _∙_}

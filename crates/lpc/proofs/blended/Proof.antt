@@ -1,3 +1,4 @@
+-- `blended` meets its contract: subframe by subframe, its call is the definition's blend, from 2 on always the last.
 use Prim.Native.Nat.{ℕ, zero, suc}
 use mathlib.Core.Path.{_≡_, refl}
 use lib.IntN.{ℤ}

@@ -1,3 +1,4 @@
+-- `convert` meets its contract: each polynomial of degree 5 fills its six coefficients, and the row is made of the two.
 use borrow.Author.Needs.{needs}
 use mathlib.Core.Path.{sym, ap₂, _∙_}
 use lib.Seq.{take-all}

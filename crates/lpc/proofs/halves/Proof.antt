@@ -1,3 +1,4 @@
+-- `halves` meets its contract: the calls are the definition's.
 use Rattle.basicop.proofs.Calls.{needsℤ, callsℤ}
 use Rattle.lpc.proofs.halves.Statement.{statement}
 use Rattle.lpc.proofs.halves.Tie as tie

@@ -1,3 +1,4 @@
+-- `lpc::interpolate` meets its contract: the calls are the definition's, for three blends and the new LSPs.
 use borrow.Author.Needs.{needs}
 use Rattle.lpc.specs.Rows.{rowsOf}
 use Rattle.lpc.proofs.interpolate.Statement.{statement}

@@ -1,3 +1,4 @@
+-- `quarters` meets its contract: the calls are the definition's.
 use Rattle.basicop.proofs.Calls.{needsℤ, callsℤ}
 use Rattle.lpc.proofs.quarters.Statement.{statement}
 use Rattle.lpc.proofs.quarters.Tie as tie

@@ -1,3 +1,4 @@
+-- `rounded_coefficient` meets its contract: the calls are the definition's.
 use Rattle.basicop.proofs.Calls.{needsℤ, callsℤ}
 use Rattle.lpc.proofs.rounded_coefficient.Statement.{statement}
 use Rattle.lpc.proofs.rounded_coefficient.Tie as tie

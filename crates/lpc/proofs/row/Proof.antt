@@ -1,3 +1,4 @@
+-- `row` meets its contract: after k turns coefficients 0 to k and the last k are those of the row.
 use Prim.Native.Nat.{_+_, _-_, _≤_}
 use borrow.Author.Needs.{needs}
 use mathlib.Core.Path.{_≡_, refl, ap, ap₂, _∙_}

@@ -1,3 +1,4 @@
+-- `pitch::fraction_of` meets its contract: for every byte the thirds are given by the rest by 3: thirds-is.
 use mathlib.Core.Path.{_≡_, sym, _∙_}
 use Prim.Native.Nat.{ℕ, _%_, _<_}
 use borrow.Author.Tests.{ne-eqb}

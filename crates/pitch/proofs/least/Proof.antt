@@ -1,3 +1,4 @@
+-- `pitch::least` meets its contract: below 140 the least lag is five less and at least 20, from 140 on it is 134.
 use mathlib.Core.Path.{_≡_, sym, ap, _∙_}
 use Prim.Native.Nat.{ℕ, max, _-_, _<_}
 use borrow.Author.Needs.{needs}

@@ -1,3 +1,4 @@
+-- `adaptive::all_taps` meets its contract: the table is the specification's, and each phase's twenty taps are put in after those before.
 use mathlib.Core.Path.{refl}
 use borrow.Author.Needs.{needs}
 use lib.Dec.{lit≤}

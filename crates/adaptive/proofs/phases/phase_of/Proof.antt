@@ -1,3 +1,4 @@
+-- `adaptive::phase_of` meets its contract: fraction by fraction, the constant is the phase.
 use borrow.Author.Needs.{needs}
 use Rattle.pitch.specs.declared.Fraction.the-variants.{MinusThird, Zero, PlusThird}
 use Rattle.adaptive.proofs.Places.{phase-by}

@@ -1,3 +1,4 @@
+-- `adaptive::start_of` meets its contract: fraction by fraction, 154 less the lag, and one less for a third more.
 use borrow.Author.Needs.{needs}
 use Rattle.pitch.specs.declared.Fraction.the-variants.{MinusThird, Zero, PlusThird}
 use Rattle.adaptive.proofs.Places.{start-by}

@@ -1,3 +1,4 @@
+-- `adaptive::tap` meets its contract: to the left and to the right, the place read in the table is the definition's.
 use mathlib.Core.Path.{ap, _∙_}
 use mathlib.Core.List.{List}
 use Prim.Native.Nat.{_+_, _*_, _-_}

@@ -1,3 +1,4 @@
+-- `capi::frame_in` meets its contract: the numbers that `sheet_in` gives are lent to the frame call.
 use borrow.Author.Needs.{needs}
 use native.Mathlib.Omega.{arith}
 use mathlib.Core.Path.{_≡_, ap, _∙_}

@@ -1,3 +1,4 @@
+-- `capi::frame_out` meets its contract: an accepted call was lent all the samples, whose bytes are put out; a refused one leaves the output.
 use borrow.Author.Needs.{needs}
 use native.Mathlib.Omega.{arith}
 use mathlib.Core.Path.{_≡_, sym, ap, _∙_}

@@ -1,3 +1,4 @@
+-- `capi::give` meets its contract: state, rows, flags and code are each written as its function says.
 use borrow.Author.Needs.{needs}
 use Rattle.capi.proofs.frames.give.Statement.{statement}
 use Rattle.capi.proofs.frames.give.Tie as tie

@@ -1,3 +1,4 @@
+-- `capi::room` meets its contract: its test is the definition's.
 use borrow.Author.Tests.{eq-eqb, ne-eqb}
 use Rattle.capi.specs.Capi.{outLength}
 use Rattle.capi.proofs.frames.room.Statement.{statement}

@@ -1,3 +1,4 @@
+-- `capi::sheet_in` meets its contract: a sheet of another length gives no numbers, else `fill` gives them all.
 use borrow.Author.Needs.{needs}
 use native.Mathlib.Omega.{arith}
 use mathlib.Core.Path.{_≡_}

@@ -1,3 +1,4 @@
+-- `coding::bits` meets its contract: a number from 0 on is its own bits, and one below 0 is 65535 less its complement.
 use native.Mathlib.Omega.{arith}
 use Rattle.coding.proofs.Bytes.{cast-of, flipped-of}
 use Rattle.coding.proofs.numbers.bits.Statement.{statement}

@@ -1,3 +1,4 @@
+-- `coding::fill` meets its contract: the numbers filled so far, and those of the bytes left, are the numbers of all.
 use Prim.Native.Nat.{_-_, _*_, _≤_}
 use mathlib.Core.Path.{_≡_}
 use mathlib.Core.List.{_++_}

@@ -1,3 +1,4 @@
+-- `coding::put` meets its contract: the bytes put so far, and those of the numbers left, are the bytes of all.
 use Prim.Native.Nat.{_-_, _*_, _≤_}
 use mathlib.Core.Path.{_≡_, ap, _∙_}
 use mathlib.Core.List.{_++_}

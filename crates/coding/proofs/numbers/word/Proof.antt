@@ -1,3 +1,4 @@
+-- `coding::word` meets its contract: read as signed the two bytes are the definition's, and taken twice from 65535 a number is itself.
 use mathlib.Core.Path.{ap, _∙_}
 use borrow.Author.Needs.{needs}
 use Rattle.coding.specs.Bytes.{signed16}

@@ -1,3 +1,4 @@
+-- `decoder::enhanced` meets its contract: after i turns the first i samples are enhanced.
 use mathlib.Core.Path.{_∙_}
 use Prim.Native.Nat.{_≤_, _-_}
 use borrow.Author.Needs.{needs}

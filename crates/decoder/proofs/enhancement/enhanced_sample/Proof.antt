@@ -1,3 +1,4 @@
+-- `decoder::enhanced_sample` meets its contract: the calls are the definition's.
 use borrow.Author.Needs.{needs}
 use Rattle.basicop.proofs.Calls.{callsℤ}
 use Rattle.decoder.proofs.enhancement.enhanced_sample.Statement.{statement}

@@ -1,3 +1,4 @@
+-- `decoder::first_excitation` meets its contract: the difference from 16384, clamped, is above 0 just where the doubled sharpening is above 16384.
 use mathlib.Core.Path.{_≡_, ap, _∙_}
 use mathlib.Core.Bool.{true, false}
 use mathlib.Core.List.{List}

@@ -1,3 +1,4 @@
+-- `decoder::joined` meets its contract: each subframe's samples are put in after those before, and the four fill the frame.
 use mathlib.Core.Path.{_≡_, sym, _∙_}
 use mathlib.Core.List.{List, _++_, append-assoc}
 use native.Mathlib.Omega.{arith}

@@ -1,3 +1,4 @@
+-- `byte` meets its contract: an index from 0 to 255 fits a byte and is kept by the cast.
 use mir.Facts.{toZ-ofZ}
 use Rattle.mr74.proofs.Sheets.{byte-fits}
 use Rattle.mr74.proofs.sheet.byte.Statement.{statement}

@@ -1,3 +1,4 @@
+-- `parameters` meets its contract: gains and innovation are read at their places in the sheet, and the lag is passed on: parameters-are.
 use Prim.Native.Nat.{_+_, _*_}
 use borrow.Author.Needs.{needs}
 use denote.Ref.{now}

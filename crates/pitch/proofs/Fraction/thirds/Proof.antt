@@ -1,3 +1,4 @@
+-- `Fraction::thirds` meets its contract: fraction by fraction, the number is the definition's.
 use borrow.Author.Needs.{needs}
 use Rattle.pitch.proofs.Fraction.thirds.Statement.{statement}
 use Rattle.pitch.proofs.Fraction.thirds.Tie as tie

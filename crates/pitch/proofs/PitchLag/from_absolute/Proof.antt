@@ -1,3 +1,4 @@
+-- `PitchLag::from_absolute` meets its contract: below 197 the lag is in thirds, from 197 on whole: absolute-below, absolute-from.
 use mathlib.Core.Path.{refl, sym, _∙_}
 use borrow.Author.Needs.{needs}
 use Rattle.pitch.proofs.Lags.{lag-eq, absolute-below, absolute-from}

@@ -1,3 +1,4 @@
+-- `PitchLag::from_relative` meets its contract: the least lag lies in 20..=134, so no step clamps and the product is the division by 3: relative-is.
 use mathlib.Core.Path.{_≡_, refl, sym, _∙_}
 use Prim.Native.Nat.{ℕ, _≤_}
 use borrow.Author.Needs.{needs}
