@@ -1,3 +1,4 @@
+-- `lines::cut_line` meets its contract: the number and then the word with its space and line feed, put one after another, are the line.
 use borrow.Author.Needs.{needs}
 use Rattle.lines.proofs.Laid.{cut-laid}
 use Rattle.lines.proofs.cut_line.Statement.{statement}

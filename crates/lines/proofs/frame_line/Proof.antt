@@ -1,3 +1,4 @@
+-- `lines::frame_line` meets its contract: number, flags, peak and mark, put one after another with a space between, are the line.
 use borrow.Author.Needs.{needs}
 use mir.Facts.{toZ-ofZ}
 use Rattle.lines.proofs.Laid.{frame-laid}

@@ -1,3 +1,4 @@
+-- `lines::refused_line` meets its contract: number, word, refusal and place, put one after another, are the line.
 use borrow.Author.Needs.{needs}
 use Rattle.lines.proofs.Laid.{refused-laid}
 use Rattle.lines.proofs.refused_line.Statement.{statement}

@@ -1,3 +1,4 @@
+-- `lines::state_line` meets its contract: the two words, the refusal and the line feed, put one after another, are the line.
 use borrow.Author.Needs.{needs}
 use Rattle.lines.proofs.Laid.{state-laid}
 use Rattle.lines.proofs.state_line.Statement.{statement}

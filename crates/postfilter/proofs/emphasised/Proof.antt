@@ -1,3 +1,4 @@
+-- `postfilter::emphasised` meets its contract: the calls are the definition's.
 use borrow.Author.Needs.{needs}
 use Rattle.basicop.proofs.Calls.{callsℤ}
 use Rattle.postfilter.proofs.emphasised.Statement.{statement}

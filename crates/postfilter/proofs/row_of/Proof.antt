@@ -1,3 +1,4 @@
+-- `postfilter::row_of` meets its contract: its cases are the definition's; a subframe that is not 0, 1 or 2 has the last row.
 use borrow.Author.Needs.{needs}
 use Rattle.postfilter.proofs.Frames.{row-fourth}
 use Rattle.postfilter.proofs.row_of.Statement.{statement}

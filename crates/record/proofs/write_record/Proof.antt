@@ -1,3 +1,4 @@
+-- `write_record` meets its contract: the body is laid into the first 394 bytes and the trailer into the eight after them.
 use borrow.Author.Needs.{needs}
 use mathlib.Core.Path.{_≡_}
 use denote.Ref.{now}

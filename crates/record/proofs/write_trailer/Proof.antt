@@ -1,3 +1,4 @@
+-- `write_trailer` meets its contract: the tag's two bytes are set, and the bytes of the three fields fill the six after them.
 use borrow.Author.Needs.{needs}
 use native.Mathlib.Omega.{arith}
 use mathlib.Core.Path.{ap, sym, _∙_}

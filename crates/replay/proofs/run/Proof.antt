@@ -1,3 +1,4 @@
+-- `replay::run` keeps every bound: the records counted are at most a million, and those that differ no more than they.
 use Prim.Native.Nat.{_≤_, _-_}
 use borrow.Author.Needs.{needs}
 use Rattle.replay.proofs.run.Statement.{statement}

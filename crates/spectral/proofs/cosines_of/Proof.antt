@@ -1,3 +1,4 @@
+-- `spectral::cosines_of` meets its contract: after i turns the first i numbers are the LSPs of the first i frequencies.
 use mathlib.Core.Path.{ap, _∙_}
 use Prim.Native.Nat.{_≤_, _-_}
 use borrow.Author.Needs.{needs}

@@ -1,3 +1,4 @@
+-- `spectral::frequency_to_cosine` meets its contract: 16384 gives the table's last entry; below it the index and the one after it are in the table.
 use mathlib.Core.Path.{_≡_, sym, ap, _∙_}
 use mathlib.Core.List.{List}
 use Prim.Native.Nat.{ℕ, _+_, _/_, _%_, _<_}

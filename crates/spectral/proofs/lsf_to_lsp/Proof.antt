@@ -1,3 +1,4 @@
+-- `spectral::lsf_to_lsp` meets its contract: its table is the definition's, and `cosines_of` gives the LSPs by it.
 use mathlib.Core.Path.{refl}
 use borrow.Author.Needs.{needs}
 use Rattle.spectral.specs.Lsp.{cosine}

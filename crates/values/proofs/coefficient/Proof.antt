@@ -1,3 +1,4 @@
+-- `values::coefficient` keeps every bound: the rounded coefficient has 16 bits and fits 32.
 use Rattle.basicop.proofs.Calls.{needsℤ}
 use borrow.Author.Needs.{needs}
 use Rattle.values.proofs.coefficient.Statement.{statement}

@@ -1,3 +1,4 @@
+-- `values::energy_of` keeps every bound: place 0 is in the samples, and a sample fits 32 bits.
 use Rattle.basicop.proofs.Calls.{needsℤ}
 use borrow.Author.Needs.{needs}
 use Rattle.values.proofs.energy_of.Statement.{statement}

@@ -1,3 +1,4 @@
+-- `values::first_clamp` keeps every bound: the places set are in their arrays, and the place is cast where the test has found it at most 40.
 use Rattle.basicop.proofs.Calls.{needsℤ}
 use borrow.Author.Needs.{needs}
 use Rattle.values.proofs.first_clamp.Statement.{statement}

@@ -1,3 +1,4 @@
+-- `values::frequencies` keeps every bound: the ten LSFs lie in 0..=16384, and the count of those printed is at most 5.
 use mathlib.Core.Path.{refl}
 use mathlib.Core.List.{_∷_}
 use Prim.Native.Nat.{_≤_, _-_}

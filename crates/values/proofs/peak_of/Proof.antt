@@ -1,3 +1,4 @@
+-- `values::peak_of` keeps every bound: place 159 is in the frame, and a sample fits 32 bits.
 use Rattle.basicop.proofs.Calls.{needsℤ}
 use borrow.Author.Needs.{needs}
 use Rattle.values.proofs.peak_of.Statement.{statement}

@@ -1,3 +1,4 @@
+-- `values::print_signed` keeps every bound: the opposite of a negative 32-bit number fits 64 bits and is not negative.
 use borrow.Author.Needs.{needs}
 use lib.IntN.{ℤ, pos, _-ℤ_}
 use lib.Signed.{_<ℤ_, _≤ℤ_}

@@ -1,3 +1,4 @@
+-- `values::short` keeps every bound: the two 16-bit numbers fit 32 bits.
 use Rattle.basicop.proofs.Calls.{needsℤ}
 use borrow.Author.Needs.{needs}
 use Rattle.values.proofs.short.Statement.{statement}

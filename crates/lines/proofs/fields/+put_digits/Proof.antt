@@ -1,3 +1,4 @@
+-- `lines::put_digits` meets its contract: one digit is put where n is below 10, else those of n / 10, which is less than n, and then the last.
 use borrow.Author.Needs.{needs}
 use native.Mathlib.Omega.{arith}
 use Rattle.lines.proofs.Decimals.{small-length, large-length}

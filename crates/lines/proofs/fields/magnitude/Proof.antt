@@ -1,3 +1,4 @@
+-- `lines::magnitude` meets its contract: the opposite of a negative 32-bit number fits 64 bits, and its magnitude is the number's.
 use mathlib.Core.Path.{_≡_, refl, ap, _∙_}
 use Prim.Native.Nat.{zero, suc}
 use lib.IntN.{ℤ, pos, negsuc, negℤ, natAbs, _-ℤ_, +ℤ-idl}

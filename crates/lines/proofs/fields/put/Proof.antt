@@ -1,3 +1,4 @@
+-- `lines::put` meets its contract: after i turns the first i bytes are put, and those before `at` are as they came.
 use Prim.Native.Nat.{_-_}
 use borrow.Author.Needs.{needs}
 use lib.ListN.{length}

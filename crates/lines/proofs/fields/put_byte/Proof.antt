@@ -1,3 +1,4 @@
+-- `lines::put_byte` meets its contract: the byte is set after the first `at`, which are as they came.
 use borrow.Author.Needs.{needs}
 use Rattle.lines.proofs.Puts.{put-one}
 use Rattle.lines.proofs.fields.put_byte.Statement.{statement}

@@ -1,3 +1,4 @@
+-- `lines::put_decimal` meets its contract: the digits are put by `put_digits`, and a number of 64 bits has at most 20.
 use native.Mathlib.Omega.{arith}
 use borrow.Author.Needs.{needs}
 use Rattle.lines.proofs.Decimals.{u64-digits}

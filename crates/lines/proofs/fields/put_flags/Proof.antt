@@ -1,3 +1,4 @@
+-- `lines::put_flags` meets its contract: the digits of the four flags, one by one, are those of the list.
 use native.Mathlib.Omega.{arith}
 use borrow.Author.Needs.{needs}
 use Rattle.lines.proofs.Peaks.{digits-four}

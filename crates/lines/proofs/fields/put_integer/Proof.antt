@@ -1,3 +1,4 @@
+-- `lines::put_integer` meets its contract: a negative number is the minus sign and the digits of its magnitude, any other the digits alone.
 use native.Mathlib.Omega.{arith}
 use borrow.Author.Needs.{needs}
 use mir.Facts.{toZ-ofZ}

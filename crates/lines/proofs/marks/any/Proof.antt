@@ -1,3 +1,4 @@
+-- `lines::any` meets its contract: of four flags the disjunction from the left is the definition's from the right.
 use borrow.Author.Needs.{needs}
 use Rattle.lines.proofs.Peaks.{any-four}
 use Rattle.lines.proofs.marks.any.Statement.{statement}

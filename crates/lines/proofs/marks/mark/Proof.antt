@@ -1,3 +1,4 @@
+-- `lines::mark` meets its contract: its three cases, by the test of the peak and then of the flags, are the definition's.
 use mathlib.Core.Path.{sym, _∙_}
 use borrow.Author.Needs.{needs}
 use mir.Facts.{toZ-ofZ}

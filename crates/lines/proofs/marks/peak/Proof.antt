@@ -1,3 +1,4 @@
+-- `lines::peak` meets its contract: at each turn what is left to fold from `most` gives the peak, and the first sample taken twice changes nothing.
 use Prim.Native.Nat.{_≤_, _-_}
 use borrow.Author.Needs.{needs}
 use mir.Syntax.{w32}

@@ -1,3 +1,4 @@
+-- `postfilter::correlation` meets its contract: after k turns the sum is that of k steps of the definition.
 use mathlib.Core.Path.{refl, ap, _∙_}
 use Prim.Native.Nat.{_+_, _≤_, _-_}
 use native.Mathlib.Numerals.{add-one}

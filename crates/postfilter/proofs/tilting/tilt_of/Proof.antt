@@ -1,3 +1,4 @@
+-- `postfilter::tilt_of` meets its contract: its test is the definition's, and the correlation is at most the energy, so that the division is in order.
 use mathlib.Core.Path.{_≡_, ap, _∙_}
 use borrow.Author.Needs.{needs}
 use lib.IntN.{pos}

@@ -1,3 +1,4 @@
+-- `postfilter::weight` meets its contract: the first coefficient stands as it came, and after i turns the next i are weighted by their factors.
 use mathlib.Core.Path.{_≡_, sym, _∙_}
 use Prim.Native.Nat.{_+_, _≤_, _-_}
 use borrow.Author.Needs.{needs}

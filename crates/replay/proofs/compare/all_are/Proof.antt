@@ -1,3 +1,4 @@
+-- `replay::all_are` keeps every bound: the place read is below the count of the bytes.
 use Prim.Native.Nat.{_≤_, _-_}
 use lib.ListN.{length}
 use borrow.Author.Needs.{needs}

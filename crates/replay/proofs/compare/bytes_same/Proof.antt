@@ -1,3 +1,4 @@
+-- `replay::bytes_same` keeps every bound: a place in the first bytes is one in the second, which are as many.
 use Prim.Native.Nat.{_≤_, _-_}
 use lib.ListN.{length}
 use borrow.Author.Needs.{needs}

@@ -1,3 +1,4 @@
+-- `replay::same` keeps every bound: j is twice i, and there are two bytes for each number.
 use mathlib.Core.Path.{_≡_}
 use Prim.Native.Nat.{_≤_, _*_, _-_}
 use lib.ListN.{length}

@@ -1,3 +1,4 @@
+-- `replay::cuts` keeps every bound: the lengths that give another refusal are no more than those tried, which are at most 402.
 use Prim.Native.Nat.{_≤_, _-_}
 use mathlib.Core.Logic.{⊎-elim}
 use native.Mathlib.Omega.{arith}

@@ -1,3 +1,4 @@
+-- `synthesis::accumulated` meets its contract: before tap k the sum is the clamped one of the taps so far.
 use Prim.Native.Nat.{_≤_, _-_}
 use borrow.Author.Needs.{needs}
 use native.Mathlib.Omega.{arith}

@@ -1,3 +1,4 @@
+-- `synthesis::filter` meets its contract: the first forty samples are all of them, and the history is the last ten.
 use borrow.Author.Needs.{needs}
 use mathlib.Core.Path.{_≡_, _∙_}
 use Rattle.synthesis.specs.Synthesis.{samples, filtered}

@@ -1,3 +1,4 @@
+-- `synthesis::size` meets its contract: the opposite of a negative number has its magnitude, which is at most 32768 for 16 bits.
 use mathlib.Core.Path.{refl, ap, _∙_}
 use borrow.Author.Needs.{needs}
 use lib.IntN.{natAbs}

@@ -1,3 +1,4 @@
+-- `synthesis::outside` meets its contract: its two tests are the definition's.
 use mir.Facts.{toZ-ofZ}
 use Rattle.synthesis.specs.Recursion.{outside}
 use Rattle.synthesis.proofs.whole.outside.Statement.{statement}

@@ -1,3 +1,4 @@
+-- `synthesis::preview` meets its contract: the samples are those of the first pass after the history, and a place below 40 is an overflow.
 use Prim.Native.Nat.{_-_}
 use borrow.Author.Needs.{needs}
 use mathlib.Core.Path.{_≡_, sym, ap, _∙_}

@@ -1,3 +1,4 @@
+-- `synthesis::product` meets its contract: the product fits 32 bits, and y is at most 32768 in size.
 use mathlib.Core.Path.{refl}
 use mir.Facts.{toZ-ofZ}
 use native.Mathlib.Nat.{le-refl}

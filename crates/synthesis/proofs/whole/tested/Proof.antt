@@ -1,3 +1,4 @@
+-- `synthesis::tested` meets its contract: before tap k it has half the sum, whose numbers after the first lie inside; once one lies outside the flag is set.
 use Prim.Native.Nat.{_≤_, _-_}
 use borrow.Author.Needs.{needs}
 use mathlib.Core.Path.{_≡_, sym, ap₂, _∙_}

@@ -1,3 +1,4 @@
+-- `synthesis::twice_outside` meets its contract: 2 z lies outside 32 bits exactly where z lies outside 31.
 use mir.Facts.{toZ-ofZ}
 use Rattle.synthesis.proofs.Halves.{twice-is}
 use Rattle.synthesis.proofs.whole.twice_outside.Statement.{statement}

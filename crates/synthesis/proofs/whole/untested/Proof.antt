@@ -1,3 +1,4 @@
+-- `synthesis::untested` meets its contract: before tap k the half is at most 32768 times the weight so far in size, so that no number lies outside.
 use Prim.Native.Nat.{_≤_, _-_}
 use borrow.Author.Needs.{needs}
 use mathlib.Core.Path.{_∙_}

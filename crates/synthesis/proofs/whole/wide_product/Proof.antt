@@ -1,3 +1,4 @@
+-- `synthesis::wide_product` meets its contract: two 16-bit numbers are at most 32768 in size, their product 1073741824.
 use mathlib.Core.Path.{refl}
 use mir.Facts.{toZ-ofZ}
 use Rattle.basicop.proofs.Calls.{needsℤ}
