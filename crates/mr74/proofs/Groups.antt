@@ -20,7 +20,7 @@ use Rattle.outcome.proofs.Ranges.{in-ranges, in-range-all}
 use Rattle.state.specs.declared.State.{State}
 use Rattle.state.specs.State.{stateChecks}
 use Rattle.state.proofs.Checks.{state-placed}
-use Rattle.mr74.specs.Sheet.{lsfsOf}
+use Rattle.mr74.specs.Sheet.{lsfsOf, gainsOf}
 use Rattle.mr74.specs.Checks.{lengthChecks, lsfChecks, pitchChecks, gainChecks, sheetChecks, frameChecks, frameOutcome}
 
 -- ---- what a group has shown
@@ -45,7 +45,7 @@ module _ (sheet : List ℤ) where
   pitch-accept h = ranges-at 10 4 pitchLimits (ltb-false _ 4 (none-met (pitchChecks sheet) tt h .0))
 
   pub gains-accept : isAccepted (firstMet (gainChecks sheet)) ≡ true → (k : ℕ) → k < 8 → pos 0 ≤ℤ at sheet (14 + k)
-  gains-accept h k l = ranges-at 14 8 (replicate 8 (pos 32767)) (ltb-false _ 8 (none-met (gainChecks sheet) tt h .0)) k l .0
+  gains-accept h k l = ranges-at 14 8 (gainsOf sheet) (ltb-false _ 8 (none-met (gainChecks sheet) tt h .0)) k l .0
 
   -- ---- places
   lsfs-placed : Placed (lsfChecks sheet)

@@ -24,9 +24,9 @@ lsfChecks sheet = placeCheck Lsf (firstOutside (lsfsOf sheet) (replicate 10 (pos
 abbrev pub pitchChecks : List ℤ → List Check
 pitchChecks sheet = placeCheck PitchIndex (firstOutside (indicesOf sheet) (pos 255 ∷ pos 31 ∷ pos 255 ∷ pos 31 ∷ [])) 4 ∷ []
 
--- 4: a negative gain
+-- 4: a negative gain. Gains have no upper limit: each is its own
 abbrev pub gainChecks : List ℤ → List Check
-gainChecks sheet = placeCheck Gain (firstOutside (gainsOf sheet) (replicate 8 (pos 32767))) 8 ∷ []
+gainChecks sheet = placeCheck Gain (firstOutside (gainsOf sheet) (gainsOf sheet)) 8 ∷ []
 
 -- the numbers of a frame sheet
 abbrev pub sheetChecks : List ℤ → List Check

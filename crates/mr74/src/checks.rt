@@ -48,13 +48,13 @@ fn check_pitch(sheet: &[i16]) -> Outcome
     Outcome::Accepted
 }
 
-// 4: a negative gain.
+// 4: a negative gain. There is no upper limit: each is its own.
 fn check_gains(sheet: &[i16]) -> Outcome
     requires { ⌜ 22 ≤ length (now sheet) ⌝ }
     ensures { λ r. ⌜ r ≡ firstMet (gainChecks (now (sheet .entry))) ⌝ }
 {
-    let limits = [32767i16; 8];
-    let place = outcome::first_outside(&sheet[14..22], &limits);
+    let gains = &sheet[14..22];
+    let place = outcome::first_outside(gains, gains);
     if place < 8 {
         return Outcome::Gain(place);
     }

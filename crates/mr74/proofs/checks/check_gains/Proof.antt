@@ -19,7 +19,6 @@ check-gains-spec =
     (λ c. search needs)
     (λ c. search needs)
     (λ c. search needs)
-    (λ c. search needs)
     (λ c κs. search needs)
     returns
     returns-2)
