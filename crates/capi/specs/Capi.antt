@@ -118,7 +118,9 @@ readReturn code state note = record { code = code; state = state; note = note }
 unfoldable pub readBytes : List ℕ → List ℕ → ℕ → ReadReturn
 readBytes bytes state note =
     let t = readCall bytes in
-    cond (eqb (length state) stateLength) (readReturn (codeOf (t .answer .outcome)) (stateBytes (t .answer .state)) (length (t .note))) (readReturn unfit state note)
+    cond (eqb (length state) stateLength)
+    (readReturn (codeOf (t .answer .outcome)) (stateBytes (t .answer .state)) (length (t .note)))
+    (readReturn unfit state note)
 
 -- ---- the writer
 -- the returned number, and the lent record

@@ -28,7 +28,8 @@ pub record AsMeasured (f : SynthesisInput) (m : Machine) (d : SynthesisResult) :
   pub input : (length (f .feedback) ≡ 40) × (length (f .excitation) ≡ 40)
   pub machine : (length (m .history) ≡ 10) × (length (m .past) ≡ 154)
   pub forty : length (d .samples) ≡ 40
-  -- "A subframe's flag is 1, retried, exactly when document 01's whole-number recurrence, unclamped, on its first excitation leaves 32 signed bits at some step."
+  -- "A subframe's flag is 1, retried, exactly when document 01's whole-number recurrence, unclamped, on its first excitation leaves 32 signed bits
+  -- at some step."
   pub flag : d .retried ≡ retried 10 (f .row) (f .excitation) (m .history)
   -- "Unretried, its forty synthesis samples are that recurrence's."
   pub samples : d .retried ≡ false → d .samples ≡ wholeSamples 10 (f .row) (f .excitation) (m .history)
@@ -86,7 +87,8 @@ pub record Demand3 (s : State) (cs : List Call) : Type 0 where
   pub sharpening : anyAccepted (runCalls s cs) ≡ true → In (pos 0) (pos 13017) (stateAfter s cs .core .sharpening .0)
   pub gain : anyAccepted (runCalls s cs) ≡ true → In (pos 0) (pos 32765) (stateAfter s cs .post .gain .«previous_gain»)
   -- "and, if the latest accepted call's last subframe was retried, all 154 past excitations in -8192..=8191."
-  pub past : latestFlag false (runCalls s cs) ≡ true → (length (stateAfter s cs .core .past) ≡ 154) × Every (In (negsuc 8191) (pos 8191)) (stateAfter s cs .core .past)
+  pub past : latestFlag false (runCalls s cs) ≡ true
+    → (length (stateAfter s cs .core .past) ≡ 154) × Every (In (negsuc 8191) (pos 8191)) (stateAfter s cs .core .past)
   -- tilts, divisors, flags, samples, feedback and past
   pub calls : EachCall s (opening s) cs
 

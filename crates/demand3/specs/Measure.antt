@@ -3,7 +3,7 @@
 -- Its unclamped steps are synthesis/specs/Whole.antt.
 -- a: the row a0..a10; x: x(n); y: the samples before y(n), the last of them y(n - 1).
 use Prim.Native.Nat.{ℕ, zero, suc}
-use mathlib.Core.Bool.{Bool, true, false, cond}
+use mathlib.Core.Bool.{cond}
 use mathlib.Core.List.{List, [], _∷_, _++_, map}
 use lib.IntN.{ℤ, pos, _+ℤ_, _-ℤ_, _*ℤ_}
 use lib.ListN.{drop}
@@ -39,11 +39,9 @@ pub record Machine : Type 0 where
   pub history : List ℤ
   pub past : List ℤ
 
--- what it makes of a subframe that is fed a row, feedback and first excitation
+-- the samples and the past that it makes of a subframe that is fed a row, feedback and first excitation
 pub record Measurement : Type 0 where
-  pub retried : Bool
   pub samples : List ℤ
-  pub feedback : List ℤ
   pub past : List ℤ
 
 -- "Either way the past then takes in the feedback, its oldest forty leaving"
@@ -53,9 +51,7 @@ takesIn past feedback = drop 40 past ++ feedback
 abbrev pub unretriedMeasurement : SynthesisInput → Machine → Measurement
 unretriedMeasurement f m =
     record {
-      retried = false;
       samples = wholeSamples 10 (f .row) (f .excitation) (m .history);
-      feedback = f .feedback;
       past = takesIn (m .past) (f .feedback);
     }
 
@@ -63,9 +59,7 @@ unretriedMeasurement f m =
 abbrev pub retriedMeasurement : SynthesisInput → Machine → Measurement
 retriedMeasurement f m =
     record {
-      retried = true;
       samples = heldSamples (f .row) (quarters (f .feedback)) (m .history);
-      feedback = quarters (f .feedback);
       past = takesIn (quarters (m .past)) (quarters (f .feedback));
     }
 

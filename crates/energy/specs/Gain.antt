@@ -1,4 +1,5 @@
--- agc2 and agc of TS 26.073 (TS 26.090, 6.1 and 6.2.1): samples are brought to the energy of others, by one gain, or by a gain that is smoothed from sample to sample.
+-- agc2 and agc of TS 26.073 (TS 26.090, 6.1 and 6.2.1): samples are brought to the energy of others, by one gain, or by a gain that is smoothed
+-- from sample to sample.
 use mathlib.Core.Bool.{cond}
 use mathlib.Core.List.{List, map}
 use Prim.Native.Nat.{ℕ, suc}

@@ -68,7 +68,18 @@ abbrev pub zeroRows : Rows
 zeroRows = record { a = replicate 11 (pos 0); b = replicate 11 (pos 0); c = replicate 11 (pos 0); d = replicate 11 (pos 0) }
 
 abbrev pub refusedTrace : Outcome → State → List ℤ → Trace
-refusedTrace o s out = record { outcome = o; rows = zeroRows; lags = []; subframes = []; flags = replicate 4 false; tilts = []; quotients = []; output = out; next = s }
+refusedTrace o s out =
+    record {
+      outcome = o;
+      rows = zeroRows;
+      lags = [];
+      subframes = [];
+      flags = replicate 4 false;
+      tilts = [];
+      quotients = [];
+      output = out;
+      next = s;
+    }
 
 -- of what a call comes to, its inputs, the state and the lent output
 abbrev pub traceBy : Outcome → FrameInputs → State → List ℤ → Trace

@@ -34,7 +34,12 @@ twoLags l = lagOf (l .first) ∷ lagOf (l .second) ∷ []
 -- what an accepted call gives
 unfoldable pub frameOutputOf : FrameInputs → State → FrameOutput
 frameOutputOf inputs s =
-    record { rows = coreResultOf inputs s .rows; flags = flagsOf (coreResultOf inputs s .subframes); samples = postResultOf inputs s .output .samples; next = nextStateOf inputs s }
+    record {
+      rows = coreResultOf inputs s .rows;
+      flags = flagsOf (coreResultOf inputs s .subframes);
+      samples = postResultOf inputs s .output .samples;
+      next = nextStateOf inputs s;
+    }
 
 -- and a refused one
 abbrev pub refusedAnswer : Outcome → State → FrameAnswer

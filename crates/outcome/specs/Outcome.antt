@@ -3,7 +3,8 @@ use mathlib.Core.Bool.{Bool}
 use Prim.Native.Nat.{ℕ}
 use lib.Dec.{eqb}
 use Rattle.outcome.specs.declared.Outcome.{Outcome}
-use Rattle.outcome.specs.declared.Outcome.the-variants.{Accepted, SheetLength, Lsf, PitchIndex, Gain, OutputLength, RecordShort, Tag, Version, Layout, BodyShort, Sharpening, SmoothedGain}
+use Rattle.outcome.specs.declared.Outcome.the-variants.{Accepted, SheetLength, Lsf, PitchIndex, Gain, OutputLength}
+use Rattle.outcome.specs.declared.Outcome.the-variants.{RecordShort, Tag, Version, Layout, BodyShort, Sharpening, SmoothedGain}
 
 -- the paper's number, and 0 for what is accepted
 abbrev pub numberOf : Outcome → ℕ

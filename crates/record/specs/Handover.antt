@@ -13,7 +13,9 @@ use Rattle.record.specs.Record.{readResult, versionOf, readCall, encoded
 
 -- what was written is read back, behind any note, with that note
 abbrev pub ReadBack : Type 0
-ReadBack = (s : State) → WellFormed s → stateOutcome s ≡ Accepted → (note : List ℕ) → readCall (note ++ encoded s) ≡ readResult (record { outcome = Accepted; state = s }) note
+ReadBack =
+    (s : State) → WellFormed s → stateOutcome s ≡ Accepted → (note : List ℕ)
+    → readCall (note ++ encoded s) ≡ readResult (record { outcome = Accepted; state = s }) note
 
 -- the record of a well-formed state, behind any note, is accepted exactly when the checks of the state pass it: it is turned back by the same check
 abbrev pub SameOutcome : Type 0
@@ -22,5 +24,6 @@ SameOutcome = (s : State) → WellFormed s → (note : List ℕ) → readCall (n
 -- two accepted records of the same version that give the same state differ at most in their notes
 abbrev pub SameRest : Type 0
 SameRest =
-    (b c : List ℕ) → Bytes b → Bytes c → isAccepted (readCall b .answer .outcome) ≡ true → isAccepted (readCall c .answer .outcome) ≡ true → versionOf b ≡ versionOf c
+    (b c : List ℕ) → Bytes b → Bytes c → isAccepted (readCall b .answer .outcome) ≡ true → isAccepted (readCall c .answer .outcome) ≡ true
+    → versionOf b ≡ versionOf c
     → readCall b .answer .state ≡ readCall c .answer .state → drop (length (readCall b .note)) b ≡ drop (length (readCall c .note)) c

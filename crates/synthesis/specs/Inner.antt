@@ -1,4 +1,5 @@
--- For inner functions: what the steps of the first pass say of a sample's whole numbers (Whole.antt), which are even up to the sum and are kept at half their size.
+-- For inner functions: what the steps of the first pass say of a sample's whole numbers (Whole.antt), which are even up to the sum and are kept at
+-- half their size.
 use Prim.Native.Nat.{ℕ, _≤_}
 use mathlib.Core.Path.{_≡_}
 use mathlib.Core.Bool.{Bool, false, _||_}
