@@ -21,19 +21,19 @@ pub record Retry (f : SynthesisInput) (history past : List ℤ) : Type 0 where
   pub place : synthesisResult f history past .place ≡ retriedAt 10 (f .row) (f .excitation) history
   -- unretried: the samples are those of the whole numbers, and the past takes in the feedback
   pub unretried-samples : retried 10 (f .row) (f .excitation) history ≡ false
-    → synthesisResult f history past .samples ≡ wholeSamples 10 (f .row) (f .excitation) history
+      → synthesisResult f history past .samples ≡ wholeSamples 10 (f .row) (f .excitation) history
   pub unretried-feedback : retried 10 (f .row) (f .excitation) history ≡ false
-    → synthesisResult f history past .feedback ≡ f .feedback
+      → synthesisResult f history past .feedback ≡ f .feedback
   pub unretried-past : retried 10 (f .row) (f .excitation) history ≡ false
-    → synthesisResult f history past .past ≡ taking past (f .feedback)
+      → synthesisResult f history past .past ≡ taking past (f .feedback)
   -- retried: feedback and past are quartered once, rounding down, and the samples are those of the clamped steps on that feedback, from the same history
   pub retried-samples : retried 10 (f .row) (f .excitation) history ≡ true
-    → synthesisResult f history past .samples ≡ samples 10 (f .row) (quartered (f .feedback)) history
+      → synthesisResult f history past .samples ≡ samples 10 (f .row) (quartered (f .feedback)) history
   pub retried-feedback : retried 10 (f .row) (f .excitation) history ≡ true
-    → synthesisResult f history past .feedback ≡ quartered (f .feedback)
+      → synthesisResult f history past .feedback ≡ quartered (f .feedback)
   pub retried-past : retried 10 (f .row) (f .excitation) history ≡ true
-    → synthesisResult f history past .past ≡ taking (quartered past) (quartered (f .feedback))
+      → synthesisResult f history past .past ≡ taking (quartered past) (quartered (f .feedback))
   -- after a retry every number of the past lies in -8192..=8191
   pub retried-small : retried 10 (f .row) (f .excitation) history ≡ true
-    → ((i : ℕ) → SFits w16 (at past i)) → ((i : ℕ) → SFits w16 (at (f .feedback) i))
-    → (i : ℕ) → (negsuc 8191 ≤ℤ at (synthesisResult f history past .past) i) × (at (synthesisResult f history past .past) i ≤ℤ pos 8191)
+      → ((i : ℕ) → SFits w16 (at past i)) → ((i : ℕ) → SFits w16 (at (f .feedback) i))
+      → (i : ℕ) → (negsuc 8191 ≤ℤ at (synthesisResult f history past .past) i) × (at (synthesisResult f history past .past) i ≤ℤ pos 8191)

@@ -88,7 +88,7 @@ pub record Demand3 (s : State) (cs : List Call) : Type 0 where
   pub gain : anyAccepted (runCalls s cs) ≡ true → In (pos 0) (pos 32765) (stateAfter s cs .post .gain .«previous_gain»)
   -- "and, if the latest accepted call's last subframe was retried, all 154 past excitations in -8192..=8191."
   pub past : latestFlag false (runCalls s cs) ≡ true
-    → (length (stateAfter s cs .core .past) ≡ 154) × Every (In (negsuc 8191) (pos 8191)) (stateAfter s cs .core .past)
+      → (length (stateAfter s cs .core .past) ≡ 154) × Every (In (negsuc 8191) (pos 8191)) (stateAfter s cs .core .past)
   -- tilts, divisors, flags, samples, feedback and past
   pub calls : EachCall s (opening s) cs
 
