@@ -1,12 +1,12 @@
--- `bench::answer_line` meets its contract: by the outcome, the line of the frame with its peak or that of the refusal.
+-- `bench_output::answer_line` meets its contract: by the outcome, the line of the frame with its peak or that of the refusal.
 use mathlib.Core.Path.{sym, _∙_}
 use borrow.Author.Needs.{needs}
 use lib.ListN.{take}
 use mir.Syntax.{w32}
 use Rattle.lists.proofs.Signed.{back}
-use Rattle.bench.proofs.Answers.{line-accepted, line-refused}
-use Rattle.bench.proofs.answer_line.Statement.{statement}
-use Rattle.bench.proofs.answer_line.Tie as tie
+use Rattle.bench_output.proofs.Answers.{line-accepted, line-refused}
+use Rattle.bench_output.proofs.answer_line.Statement.{statement}
+use Rattle.bench_output.proofs.answer_line.Tie as tie
 
 returns : tie.Need-returns
 returns c =

@@ -1,2 +1,0 @@
--- Answers: a sheet's line, where its frame call is accepted and where it is refused.
-pub mod Answers

@@ -1,0 +1,3 @@
+-- Answers: a sheet's line and step, case by case. Steps: the steps of any input print the whole output.
+pub mod Answers
+pub mod Steps
