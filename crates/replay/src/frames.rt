@@ -1,7 +1,10 @@
 // The frame call on its records: what the call is given, then the answers of the reference.
 ghost use mathlib.Core.Path.{_≡_};
 ghost use Prim.Native.Nat.{_≤_};
+ghost use mathlib.Core.List.{map};
 ghost use lib.ListN.{length};
+ghost use Rattle.coding.specs.Bytes.{words};
+ghost use Rattle.replay.specs.Compare.{Tells, flagNumber};
 use super::compare::all_are;
 use super::compare::frame_same;
 use super::compare::rows_same;
@@ -10,12 +13,15 @@ use super::compare::state_same;
 use super::words::bits;
 use mr74::FrameAnswer;
 
-fn number(flag: bool) -> i16 {
+fn number(flag: bool) -> i16
+    ensures { λ r. ⌜ r ≡ flagNumber flag ⌝ }
+{
     if flag { 1 } else { 0 }
 }
 
 fn flags_same(b: &[u8], flags: [bool; 4]) -> bool
     requires { ⌜ length (now b) ≡ 8 ⌝ }
+    ensures { λ r. ⌜ Tells (words (now (b .entry)) ≡ map flagNumber flags) r ⌝ }
 {
     let numbers = [
         number(flags[0]),

@@ -1,0 +1,91 @@
+-- What a comparison says: by its parts, and by a loop that stops at the first two entries that differ. Assumes nothing.
+use mathlib.Core.Path.{_≡_, refl, ap, sym, _∙_}
+use mathlib.Core.Bool.{Bool, true, false, _&&_}
+use mathlib.Core.List.{List, [], _∷_, map}
+use Prim.Native.Nat.{ℕ, zero, suc, _+_, _*_, _^_, _≤_, _<_}
+use native.Mathlib.Numerals.{add-one}
+use native.Mathlib.Omega.{arith}
+use lib.IntN.{ℤ}
+use lib.ListN.{length, take, getD}
+use lib.Seq.{take-suc, take-all}
+use lib.Signed.{mag}
+use mir.Syntax.{w16}
+use mir.Val.{toZ, ofZ}
+use Rattle.lists.specs.Lists.{at}
+use Rattle.lists.specs.Parts.{joined, total, cut}
+use Rattle.lists.proofs.Parts.{Counted, stretches, cut-joined, joined-cut}
+use Rattle.lists.proofs.Signed.{back}
+use Rattle.coding.specs.Bytes.{signed16, unsigned, words}
+use Rattle.coding.proofs.Words.{doubled, words-cut, at-words}
+use Rattle.replay.specs.Compare.{Tells, flagNumber}
+
+-- ---- one answer
+pub told-true : {P : Type 0} → P → Tells P true
+told-true p = record { yes = λ e. p; no = λ e q. let z : _≡_ {A = ℕ} 0 1 = cc in omega arith }
+
+pub told-false : {P : Type 0} → (P → ⊥) → Tells P false
+told-false n = record { yes = λ e. let z : _≡_ {A = ℕ} 0 1 = cc in absurd (omega arith); no = λ e. n }
+
+-- the same said of another statement that holds where this one does
+pub told-of : {P Q : Type 0} {r : Bool} → (P → Q) → (Q → P) → Tells P r → Tells Q r
+told-of f g t = record { yes = λ e. f (t .yes e); no = λ e q. t .no e (g q) }
+
+pub told-both : {P Q : Type 0} {r s : Bool} → Tells P r → Tells Q s → Tells (P × Q) (r && s)
+told-both {r = true} {s = true} t u = told-true (t .yes refl, u .yes refl)
+told-both {r = true} {s = false} t u = told-false (λ p. u .no refl (p .1))
+told-both {r = false} {s = s} t u = told-false (λ p. t .no refl (p .0))
+
+-- ---- a loop over two lists that are as long: the first i entries of both are the same
+pub record Alike {A : Type 0} (xs ys : List A) (i : ℕ) : Type 0 where
+  pub lengths : length xs ≡ length ys
+  pub front : take i xs ≡ take i ys
+
+module _ {A : Type 0} where
+  pub alike-none : {xs ys : List A} → length xs ≡ length ys → Alike xs ys 0
+  alike-none l = record { lengths = l; front = refl }
+
+  pub alike-more : {xs ys : List A} {i : ℕ} (d : A) → Alike xs ys i → i < length xs → getD xs i d ≡ getD ys i d → Alike xs ys (i + 1)
+  alike-more {xs} {ys} {i} d a h e =
+      let k : i < length ys = omega (arith, a .lengths) in
+      record { lengths = a .lengths; front = rw (add-one, take-suc xs i d h, take-suc ys i d k, a .front, e) }
+
+  pub alike-all : {xs ys : List A} {i : ℕ} → Alike xs ys i → length xs ≤ i → Tells (xs ≡ ys) true
+  alike-all {xs} {ys} {i} a h = told-true (sym (take-all i xs h) ∙ a .front ∙ take-all i ys (omega (arith, a .lengths)))
+
+  pub unlike : {xs ys : List A} {i : ℕ} (d : A) → Alike xs ys i → (getD xs i d ≡ getD ys i d → ⊥) → Tells (xs ≡ ys) false
+  unlike {xs} {ys} {i} d a n = told-false (λ e. n (ap (λ (l : List A). getD l i d) e))
+
+-- a number for each two bytes
+pub words-length : (b : List ℕ) (n : ℕ) → length b ≡ 2 * n → length (words b) ≡ n
+unfolding words
+words-length [] n e = omega (arith, e)
+words-length (x ∷ []) n e = absurd (omega (arith, e))
+words-length (x ∷ y ∷ b) zero e = absurd (omega (arith, e))
+words-length (x ∷ y ∷ b) (suc n) e = ap suc (words-length b n (omega (arith, e)))
+
+-- the number of the two bytes that stand where number i does
+pub word-at : (b : List ℕ) (i j : ℕ) {z : ℤ} → j ≡ 2 * i → j + 1 < length b → z ≡ signed16 (unsigned (getD b j 0) (getD b (j + 1) 0)) → z ≡ at (words b) i
+word-at b i j e h w = w ∙ rw e (at-words b i (omega (arith, e)))
+
+-- the test of two numbers is of their bits
+pub same-bits : {x y : ℤ} → mag x < 2 ^ 15 → mag y < 2 ^ 15 → ofZ w16 x ≡ ofZ w16 y → x ≡ y
+same-bits h k e = sym (back w16 h) ∙ ap (toZ w16) e ∙ back w16 k
+
+-- ---- four stretches of bytes, and the numbers of all of them
+module _ (b : List ℕ) (ns : List ℕ) (ps : List (List ℤ)) (l : length b ≡ 2 * total ns) (k : Counted ns ps) where
+  pub told-parts : {r : Bool} → Tells (map words (stretches 0 (doubled ns) b) ≡ ps) r → Tells (words b ≡ joined ps) r
+  told-parts = told-of (λ e. sym (joined-cut ns (words b) (words-length b (total ns) l)) ∙ ap joined (sym (words-cut ns b) ∙ e)) (λ e. words-cut ns b ∙ ap (cut ns) e ∙ cut-joined ns ps k)
+
+pub told-four : {w x y z w′ x′ y′ z′ : List ℤ} {r s t u : Bool} → Tells (w ≡ w′) r → Tells (x ≡ x′) s → Tells (y ≡ y′) t → Tells (z ≡ z′) u
+    → Tells ((w ∷ x ∷ y ∷ z ∷ []) ≡ (w′ ∷ x′ ∷ y′ ∷ z′ ∷ [])) (r && s && t && u)
+told-four a b c d = told-of (λ p i. p .0 .0 .0 i ∷ p .0 .0 .1 i ∷ p .0 .1 i ∷ p .1 i ∷ []) (λ e. (((cc, cc), cc), cc)) (told-both (told-both (told-both a b) c) d)
+
+-- ---- four flags as numbers
+pub four-flags : (flags : List Bool) {w x y z : ℤ} → length flags ≡ 4 → w ≡ flagNumber (getD flags 0 false) → x ≡ flagNumber (getD flags 1 false) → y ≡ flagNumber (getD flags 2 false)
+    → z ≡ flagNumber (getD flags 3 false) → (w ∷ x ∷ y ∷ z ∷ []) ≡ map flagNumber flags
+four-flags [] l a b c d = absurd (omega (arith, l))
+four-flags (p ∷ []) l a b c d = absurd (omega (arith, l))
+four-flags (p ∷ q ∷ []) l a b c d = absurd (omega (arith, l))
+four-flags (p ∷ q ∷ r ∷ []) l a b c d = absurd (omega (arith, l))
+four-flags (p ∷ q ∷ r ∷ s ∷ []) l a b c d = λ i. a i ∷ b i ∷ c i ∷ d i ∷ []
+four-flags (p ∷ q ∷ r ∷ s ∷ t ∷ fs) l a b c d = absurd (omega (arith, l))
