@@ -71,10 +71,13 @@ word-at b i j e h w = w ∙ rw e (at-words b i (omega (arith, e)))
 pub same-bits : {x y : ℤ} → mag x < 2 ^ 15 → mag y < 2 ^ 15 → ofZ w16 x ≡ ofZ w16 y → x ≡ y
 same-bits h k e = sym (back w16 h) ∙ ap (toZ w16) e ∙ back w16 k
 
--- ---- four stretches of bytes, and the numbers of all of them
-module _ (b : List ℕ) (ns : List ℕ) (ps : List (List ℤ)) (l : length b ≡ 2 * total ns) (k : Counted ns ps) where
-  pub told-parts : {r : Bool} → Tells (map words (stretches 0 (doubled ns) b) ≡ ps) r → Tells (words b ≡ joined ps) r
-  told-parts = told-of (λ e. sym (joined-cut ns (words b) (words-length b (total ns) l)) ∙ ap joined (sym (words-cut ns b) ∙ e)) (λ e. words-cut ns b ∙ ap (cut ns) e ∙ cut-joined ns ps k)
+-- ---- stretches of bytes, and the numbers of all of them
+pub stretches-joined : (b : List ℕ) (ns : List ℕ) → length b ≡ 2 * total ns → joined (map words (stretches 0 (doubled ns) b)) ≡ words b
+stretches-joined b ns l = ap joined (words-cut ns b) ∙ joined-cut ns (words b) (words-length b (total ns) l)
+
+pub told-parts : (b : List ℕ) (ns : List ℕ) (ps : List (List ℤ)) {r : Bool} → length b ≡ 2 * total ns → Counted ns ps → Tells (map words (stretches 0 (doubled ns) b) ≡ ps) r
+    → Tells (words b ≡ joined ps) r
+told-parts b ns ps l k = told-of (λ e. sym (stretches-joined b ns l) ∙ ap joined e) (λ e. words-cut ns b ∙ ap (cut ns) e ∙ cut-joined ns ps k)
 
 pub told-four : {w x y z w′ x′ y′ z′ : List ℤ} {r s t u : Bool} → Tells (w ≡ w′) r → Tells (x ≡ x′) s → Tells (y ≡ y′) t → Tells (z ≡ z′) u
     → Tells ((w ∷ x ∷ y ∷ z ∷ []) ≡ (w′ ∷ x′ ∷ y′ ∷ z′ ∷ [])) (r && s && t && u)
