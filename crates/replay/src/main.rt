@@ -3,6 +3,7 @@
 ghost use Prim.Native.Nat.{_≤_};
 
 mod compare;
+mod filters;
 mod frames;
 mod records;
 mod stages;
@@ -31,12 +32,12 @@ fn agrees(stage: u32, b: &[u8]) -> bool {
         3 => stages::interpolate(b),
         4 => stages::lag(b),
         5 => stages::predict(b),
-        6 => stages::energy(b),
-        7 => stages::inverse_sqrt(b),
-        8 => stages::match_energy(b),
-        9 => stages::gain_control(b),
-        10 => stages::synthesis(b),
-        11 => stages::postfilter(b),
+        6 => filters::energy(b),
+        7 => filters::inverse_sqrt(b),
+        8 => filters::match_energy(b),
+        9 => filters::gain_control(b),
+        10 => filters::synthesis(b),
+        11 => filters::postfilter(b),
         12 => frames::frame(b),
         13 => records::record_read(b),
         14 => records::record_write(b),
