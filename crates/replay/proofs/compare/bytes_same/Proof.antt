@@ -16,10 +16,10 @@ loop-holds : tie.Need-loop-holds Inv-loop μ-loop
 loop-holds c = (search needs, alike-none (c .pre))
 
 returns : tie.Need-returns Inv-loop μ-loop
-returns c = unlike 0 (c .before .before .before .before .loop .inv .1) (c .if1 .taken)
+returns c = unlike 0 (c .before .before .before .before .loop .inv .1) (search (needs, c .if1 .taken))
 
 loop-again : tie.Need-loop-again Inv-loop μ-loop
-loop-again c = (search needs, alike-more 0 (c .before .before .before .before .loop .inv .1) (search needs) (c .if1 .left))
+loop-again c = (search needs, alike-more 0 (c .before .before .before .before .loop .inv .1) (search needs) (search needs))
 
 returns-2 : tie.Need-returns-2 Inv-loop μ-loop
 returns-2 c = alike-all (c .before .loop .inv .1) (search needs)
