@@ -27,6 +27,7 @@ pub mod agree;
 pub mod bench;
 pub mod coverage;
 pub mod draw;
+pub mod examples;
 pub mod files;
 pub mod frame;
 pub mod model;

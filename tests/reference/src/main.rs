@@ -1,7 +1,7 @@
 //! `reference COMMAND`: see USAGE.
 
 use reference::{
-    agree, bench, coverage,
+    agree, bench, coverage, examples,
     files::{self, FILES, Field, File},
     program,
     report::Report,
@@ -26,7 +26,7 @@ reference agree FRAMES SEED
                          every LSF, lag and argument of the inverse root
 reference bench          the bench program's lines for standard input
 reference bench PROGRAM  runs the bench program and compares its lines with these
-reference example        the bytes of examples/call.bin
+reference example NAME   the bytes of examples/NAME.bin
 reference call SHEETS    the bytes of a record and SHEETS drawn sheets";
 
 fn main() -> ExitCode {
@@ -48,7 +48,10 @@ fn main() -> ExitCode {
         },
         ["bench"] => bench(),
         ["bench", program] => program::check(Path::new(program), Path::new("examples")),
-        ["example"] => put([program::example()]),
+        ["example", name] => match examples::input(name) {
+            Some(bytes) => put([bytes]),
+            None => usage(),
+        },
         ["call", sheets] => sheets
             .parse()
             .is_ok_and(|sheets| put(program::call(1, sheets, 1000))),

@@ -4,6 +4,7 @@
 use crate::{
     SHEET, STATE, at, bench,
     draw::{self, Loudness},
+    examples::RUNS,
     random::Random,
     record,
     report::Report,
@@ -19,14 +20,14 @@ use std::{
 
 const BYTES: usize = 2 * SHEET;
 
-fn bytes_of(numbers: &[i16]) -> Vec<u8> {
+pub fn bytes_of(numbers: &[i16]) -> Vec<u8> {
     numbers
         .iter()
         .flat_map(|number| number.to_le_bytes())
         .collect()
 }
 
-fn record_of(state: &[i16]) -> Vec<u8> {
+pub fn record_of(state: &[i16]) -> Vec<u8> {
     let mut bytes = bytes_of(state);
     bytes.extend(record::TRAILER);
     bytes
@@ -109,11 +110,11 @@ fn shown(input: &[u8]) -> (i16, bool) {
 }
 
 /// A state and an accepted sheet, drawn from a seed.
-fn single(seed: u64) -> Vec<u8> {
+pub fn single(seed: u64) -> (Vec<i16>, Vec<i16>) {
     let mut random = Random::new(seed);
     let limit = draw::level(&mut random);
     let state = draw::state(&mut random, limit);
-    [record_of(&state), bytes_of(&sheet(&mut random))].concat()
+    (state, sheet(&mut random))
 }
 
 /// A state and a sheet whose samples are all negative: a constant innovation and flat rows.
@@ -145,27 +146,6 @@ pub fn call(seed: u64, sheets: usize, refusals: i64) -> impl Iterator<Item = Vec
         bytes_of(&sheet)
     });
     std::iter::once(first).chain(rest)
-}
-
-/// The call of `examples/`: gaps kept, some subframes retried, one sheet refused, the last one cut.
-pub fn example() -> Vec<u8> {
-    let mut random = Random::new(74);
-    let mut bytes = record_of(&[0; STATE]);
-    for number in 1..=14 {
-        let loudness = if number < 7 {
-            Loudness::Speech
-        } else {
-            Loudness::Loud
-        };
-        let lsf = draw::spread(&mut random);
-        let mut sheet = draw::sheet(&mut random, lsf, loudness);
-        if number == 9 {
-            sheet[at::PITCH + 1] = 32;
-        }
-        bytes.extend(bytes_of(&sheet));
-    }
-    bytes.truncate(bytes.len() - BYTES / 2);
-    bytes
 }
 
 /// What the program writes on an input. A program that ends early leaves the rest unread.
@@ -265,15 +245,19 @@ fn sheets(report: &mut Report, program: &Path, random: &mut Random) {
     compare(report, program, "a last sheet cut at every length", &cut);
 }
 
+/// The seed of a peak of 32761 without a retry.
+pub const LOUD_SEED: u64 = 21_810;
+
 fn marks(report: &mut Report, program: &Path, random: &mut Random) {
     // Seeds from a search of 1,580,000. It met no peak of 32759 without a retry.
     for (seed, peak, retried) in [
         (71, 32759, true),
         (199_445, 32760, true),
         (1_557_065, 32760, false),
-        (21_810, 32761, false),
+        (LOUD_SEED, 32761, false),
     ] {
-        let input = single(seed);
+        let (state, sheet) = single(seed);
+        let input = [record_of(&state), bytes_of(&sheet)].concat();
         let name = format!("peak {peak}, retried: {retried}");
         report.line(shown(&input) == (peak, retried), &name);
         compare(report, program, &name, &[input]);
@@ -283,16 +267,25 @@ fn marks(report: &mut Report, program: &Path, random: &mut Random) {
     }
 }
 
-/// Runs the program, and compares the example call's files with their lines.
+/// The stored runs: the input is made again, the text has its lines, and the program writes them.
+fn stored(report: &mut Report, program: &Path, folder: &Path) {
+    for run in &RUNS {
+        let kept = |end: &str| fs::read(folder.join(run.name).with_extension(end));
+        let (input, lines) = (kept("bin").unwrap_or_default(), kept("txt").ok());
+        let made = input == (run.input)();
+        report.line(made, &format!("{}.bin is made again", run.name));
+        let same = lines.as_deref() == Some(bench::lines(&input).as_bytes());
+        report.line(same, &format!("{}.txt has its lines", run.name));
+        let written = lines.is_some() && output(program, &input).ok() == lines;
+        report.line(written, &format!("the program writes {}.txt", run.name));
+    }
+}
+
+/// Runs the program, on the stored runs too.
 pub fn check(program: &Path, examples: &Path) -> bool {
     let mut report = Report::default();
     let mut random = Random::new(3);
-    let kept = |name: &str| fs::read(examples.join(name)).unwrap_or_default();
-    let (call_bytes, call_lines) = (kept("call.bin"), kept("call.txt"));
-    report.line(call_bytes == example(), "call.bin is the example call");
-    let same = call_lines == bench::lines(&call_bytes).as_bytes();
-    report.line(same, "call.txt has its lines");
-    compare(&mut report, program, "the example call", &[call_bytes]);
+    stored(&mut report, program, examples);
     records(&mut report, program, &mut random);
     sheets(&mut report, program, &mut random);
     marks(&mut report, program, &mut random);

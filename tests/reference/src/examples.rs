@@ -1,0 +1,144 @@
+//! The stored runs of `examples/`: inputs of the bench program, drawn from fixed seeds.
+
+use crate::{
+    FRAME, SHEET, STATE, SUBFRAMES, at,
+    draw::{self, Loudness},
+    frame::frame,
+    part,
+    program::{LOUD_SEED, bytes_of, record_of, sheet, single},
+    random::Random,
+};
+use std::ops::RangeInclusive;
+
+/// A stored run: `NAME.bin` has its input, `NAME.txt` the lines.
+pub struct Run {
+    pub name: &'static str,
+    pub input: fn() -> Vec<u8>,
+}
+
+pub const RUNS: [Run; 2] = [
+    Run {
+        name: "call",
+        input: call,
+    },
+    Run {
+        name: "marks",
+        input: marks,
+    },
+];
+
+/// The input of the run of that name.
+pub fn input(name: &str) -> Option<Vec<u8>> {
+    let run = RUNS.iter().find(|run| run.name == name)?;
+    Some((run.input)())
+}
+
+/// A call: gaps kept, some subframes retried, one sheet refused, the last one cut.
+fn call() -> Vec<u8> {
+    let mut random = Random::new(74);
+    let mut bytes = record_of(&[0; STATE]);
+    for number in 1..=14 {
+        let loudness = if number < 7 {
+            Loudness::Speech
+        } else {
+            Loudness::Loud
+        };
+        let lsf = draw::spread(&mut random);
+        let mut sheet = draw::sheet(&mut random, lsf, loudness);
+        if number == 9 {
+            sheet[at::PITCH + 1] = 32;
+        }
+        bytes.extend(bytes_of(&sheet));
+    }
+    bytes.truncate(bytes.len() - SHEET);
+    bytes
+}
+
+/// How a sheet is drawn.
+type Draw = fn(&mut Random) -> Vec<i16>;
+
+/// What the next sheet is to show.
+enum Wanted {
+    /// Flags and peak: the first drawn sheet that has them.
+    Frame(Draw, [i16; SUBFRAMES], RangeInclusive<i16>),
+    /// A refusal: a drawn sheet with these numbers at these places.
+    Refusal(&'static [(usize, i16)]),
+}
+
+use Wanted::{Frame, Refusal};
+
+const NEGATIVE: RangeInclusive<i16> = -32768..=-1;
+const PLAIN: RangeInclusive<i16> = 0..=32759;
+const LOUD: RangeInclusive<i16> = 32760..=32767;
+
+/// The sheets of `marks.bin` after the first: each flag alone, each mark, a negative peak,
+/// refusals 2, 3 and 4, two sheets with several, and a last sheet to cut.
+const MARKS: [Wanted; 17] = [
+    Frame(sheet, [1, 0, 0, 0], PLAIN),
+    Frame(sheet, [0, 1, 0, 0], PLAIN),
+    Refusal(&[(7, 16385)]),
+    Frame(sheet, [0, 0, 1, 0], PLAIN),
+    Frame(sheet, [0, 0, 0, 1], PLAIN),
+    Frame(lowered, [0, 0, 0, 0], PLAIN),
+    Refusal(&[(at::PITCH + 2, 256)]),
+    Frame(lowered, [0, 0, 0, 0], NEGATIVE),
+    Frame(sheet, [1, 0, 1, 0], PLAIN),
+    Refusal(&[(at::GAINS + 6, -1)]),
+    Frame(sheet, [0, 1, 1, 1], LOUD),
+    Refusal(&[(5, -1), (at::PITCH, 256), (at::GAINS, -1)]),
+    Frame(sheet, [1, 1, 1, 1], LOUD),
+    Frame(sheet, [1, 1, 0, 1], PLAIN),
+    Refusal(&[(at::PITCH + 1, 32), (at::PITCH + 3, 32), (at::GAINS, -1)]),
+    Frame(sheet, [0, 0, 0, 0], PLAIN),
+    Frame(sheet, [0, 0, 0, 0], PLAIN),
+];
+
+/// A sheet with one negative number at every place of its innovation.
+fn lowered(random: &mut Random) -> Vec<i16> {
+    let mut sheet = sheet(random);
+    sheet[at::INNOVATION..].fill(random.word(-8192, -1));
+    sheet
+}
+
+fn shows(
+    sheet: &[i16],
+    state: &[i16; STATE],
+    flags: [i16; SUBFRAMES],
+    peaks: &RangeInclusive<i16>,
+) -> bool {
+    let mut samples = [0; FRAME];
+    let answer = frame(sheet, state, &mut samples);
+    let peak = samples.iter().max();
+    answer.flags == flags && peak.is_some_and(|peak| peaks.contains(peak))
+}
+
+fn drawn(random: &mut Random, state: &[i16; STATE], wanted: &Wanted) -> Vec<i16> {
+    match wanted {
+        Frame(draw, flags, peaks) => (0..100_000)
+            .map(|_| draw(random))
+            .find(|sheet| shows(sheet, state, *flags, peaks))
+            .expect("a sheet with these flags and peak is drawn"),
+        Refusal(numbers) => {
+            let mut sheet = sheet(random);
+            for &(place, number) in *numbers {
+                sheet[place] = number;
+            }
+            sheet
+        }
+    }
+}
+
+/// A state and a sheet that is loud without a retry, then `MARKS`; the last sheet lacks a byte.
+fn marks() -> Vec<u8> {
+    let mut random = Random::new(77);
+    let (state, sheet) = single(LOUD_SEED);
+    let mut bytes = [record_of(&state), bytes_of(&sheet)].concat();
+    let mut state = frame(&sheet, &part(&state, 0), &mut [0; FRAME]).state;
+    for wanted in &MARKS {
+        let sheet = drawn(&mut random, &state, wanted);
+        state = frame(&sheet, &state, &mut [0; FRAME]).state;
+        bytes.extend(bytes_of(&sheet));
+    }
+    bytes.pop();
+    bytes
+}
