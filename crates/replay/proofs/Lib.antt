@@ -1,2 +1,3 @@
--- Told: what a comparison says, made of parts and of loops.
+-- Numbers: the numbers of a record's bytes. Told: what a comparison says, by its parts and by loops.
+pub mod Numbers
 pub mod Told

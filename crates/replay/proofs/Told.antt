@@ -2,22 +2,18 @@
 use mathlib.Core.Path.{_≡_, refl, ap, sym, _∙_}
 use mathlib.Core.Bool.{Bool, true, false, _&&_}
 use mathlib.Core.List.{List, [], _∷_, map}
-use Prim.Native.Nat.{ℕ, zero, suc, _+_, _*_, _^_, _≤_, _<_}
+use Prim.Native.Nat.{ℕ, _+_, _*_, _≤_, _<_}
 use native.Mathlib.Numerals.{add-one}
 use native.Mathlib.Omega.{arith}
 use lib.IntN.{ℤ}
 use lib.ListN.{length, take, getD}
 use lib.Seq.{take-suc, take-all}
-use lib.Signed.{mag}
-use mir.Syntax.{w16}
-use mir.Val.{toZ, ofZ}
-use Rattle.lists.specs.Lists.{at}
 use Rattle.lists.specs.Parts.{joined, total, cut}
-use Rattle.lists.proofs.Parts.{Counted, stretches, cut-joined, joined-cut}
-use Rattle.lists.proofs.Signed.{back}
-use Rattle.coding.specs.Bytes.{signed16, unsigned, words}
-use Rattle.coding.proofs.Words.{doubled, words-cut, at-words}
-use Rattle.replay.specs.Compare.{Tells, flagNumber}
+use Rattle.lists.proofs.Parts.{Counted, stretches, cut-joined}
+use Rattle.coding.specs.Bytes.{words}
+use Rattle.coding.proofs.Words.{doubled, words-cut}
+use Rattle.replay.specs.Compare.{Tells}
+use Rattle.replay.proofs.Numbers.{stretches-joined}
 
 -- ---- one answer
 pub told-true : {P : Type 0} → P → Tells P true
@@ -55,26 +51,7 @@ module _ {A : Type 0} where
   pub unlike : {xs ys : List A} {i : ℕ} (d : A) → Alike xs ys i → (getD xs i d ≡ getD ys i d → ⊥) → Tells (xs ≡ ys) false
   unlike {xs} {ys} {i} d a n = told-false (λ e. n (ap (λ (l : List A). getD l i d) e))
 
--- a number for each two bytes
-pub words-length : (b : List ℕ) (n : ℕ) → length b ≡ 2 * n → length (words b) ≡ n
-unfolding words
-words-length [] n e = omega (arith, e)
-words-length (x ∷ []) n e = absurd (omega (arith, e))
-words-length (x ∷ y ∷ b) zero e = absurd (omega (arith, e))
-words-length (x ∷ y ∷ b) (suc n) e = ap suc (words-length b n (omega (arith, e)))
-
--- the number of the two bytes that stand where number i does
-pub word-at : (b : List ℕ) (i j : ℕ) {z : ℤ} → j ≡ 2 * i → j + 1 < length b → z ≡ signed16 (unsigned (getD b j 0) (getD b (j + 1) 0)) → z ≡ at (words b) i
-word-at b i j e h w = w ∙ rw e (at-words b i (omega (arith, e)))
-
--- the test of two numbers is of their bits
-pub same-bits : {x y : ℤ} → mag x < 2 ^ 15 → mag y < 2 ^ 15 → ofZ w16 x ≡ ofZ w16 y → x ≡ y
-same-bits h k e = sym (back w16 h) ∙ ap (toZ w16) e ∙ back w16 k
-
--- ---- stretches of bytes, and the numbers of all of them
-pub stretches-joined : (b : List ℕ) (ns : List ℕ) → length b ≡ 2 * total ns → joined (map words (stretches 0 (doubled ns) b)) ≡ words b
-stretches-joined b ns l = ap joined (words-cut ns b) ∙ joined-cut ns (words b) (words-length b (total ns) l)
-
+-- ---- lists, part by part
 pub told-parts : (b : List ℕ) (ns : List ℕ) (ps : List (List ℤ)) {r : Bool} → length b ≡ 2 * total ns → Counted ns ps → Tells (map words (stretches 0 (doubled ns) b) ≡ ps) r
     → Tells (words b ≡ joined ps) r
 told-parts b ns ps l k = told-of (λ e. sym (stretches-joined b ns l) ∙ ap joined e) (λ e. words-cut ns b ∙ ap (cut ns) e ∙ cut-joined ns ps k)
@@ -82,13 +59,3 @@ told-parts b ns ps l k = told-of (λ e. sym (stretches-joined b ns l) ∙ ap joi
 pub told-four : {w x y z w′ x′ y′ z′ : List ℤ} {r s t u : Bool} → Tells (w ≡ w′) r → Tells (x ≡ x′) s → Tells (y ≡ y′) t → Tells (z ≡ z′) u
     → Tells ((w ∷ x ∷ y ∷ z ∷ []) ≡ (w′ ∷ x′ ∷ y′ ∷ z′ ∷ [])) (r && s && t && u)
 told-four a b c d = told-of (λ p i. p .0 .0 .0 i ∷ p .0 .0 .1 i ∷ p .0 .1 i ∷ p .1 i ∷ []) (λ e. (((cc, cc), cc), cc)) (told-both (told-both (told-both a b) c) d)
-
--- ---- four flags as numbers
-pub four-flags : (flags : List Bool) {w x y z : ℤ} → length flags ≡ 4 → w ≡ flagNumber (getD flags 0 false) → x ≡ flagNumber (getD flags 1 false) → y ≡ flagNumber (getD flags 2 false)
-    → z ≡ flagNumber (getD flags 3 false) → (w ∷ x ∷ y ∷ z ∷ []) ≡ map flagNumber flags
-four-flags [] l a b c d = absurd (omega (arith, l))
-four-flags (p ∷ []) l a b c d = absurd (omega (arith, l))
-four-flags (p ∷ q ∷ []) l a b c d = absurd (omega (arith, l))
-four-flags (p ∷ q ∷ r ∷ []) l a b c d = absurd (omega (arith, l))
-four-flags (p ∷ q ∷ r ∷ s ∷ []) l a b c d = λ i. a i ∷ b i ∷ c i ∷ d i ∷ []
-four-flags (p ∷ q ∷ r ∷ s ∷ t ∷ fs) l a b c d = absurd (omega (arith, l))

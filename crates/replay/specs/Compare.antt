@@ -1,7 +1,11 @@
--- What a comparison says of what it compares.
+-- What a comparison says of what it compares, and numbers as a record has them.
 use mathlib.Core.Path.{_≡_}
 use mathlib.Core.Bool.{Bool, true, false, cond}
-use lib.IntN.{ℤ, pos}
+use mathlib.Core.List.{List}
+use Prim.Native.Nat.{ℕ}
+use lib.IntN.{ℤ, pos, _+ℤ_, _*ℤ_}
+use lib.ListN.{getD}
+use Rattle.coding.specs.Bytes.{signed16, unsigned}
 
 -- r tells whether P holds: it is true only where P does, and false only where P does not
 pub record Tells (P : Type 0) (r : Bool) : Type 0 where
@@ -11,3 +15,7 @@ pub record Tells (P : Type 0) (r : Bool) : Type 0 where
 -- a flag as a record has it
 abbrev pub flagNumber : Bool → ℤ
 flagNumber flag = cond flag (pos 1) (pos 0)
+
+-- a number of 32 bits: the low sixteen, then the high ones, which are signed
+abbrev pub longOf : List ℕ → ℤ
+longOf b = signed16 (unsigned (getD b 2 0) (getD b 3 0)) *ℤ pos 65536 +ℤ pos (unsigned (getD b 0 0) (getD b 1 0))

@@ -1,9 +1,11 @@
 // Numbers of a record, read from the stretch of bytes that has them.
 ghost use mathlib.Core.Path.{_≡_};
+ghost use lib.IntN.{pos, _+ℤ_, _*ℤ_};
 ghost use lib.ListN.{length, getD};
 ghost use Rattle.lists.specs.Parts.{joined};
 ghost use Rattle.decoder.specs.Core.{rowList};
 ghost use Rattle.coding.specs.Bytes.{signed16, unsigned, words};
+ghost use Rattle.replay.specs.Compare.{longOf};
 use coding::fill;
 use lpc::Rows;
 
@@ -22,13 +24,19 @@ pub fn word(b: &[u8]) -> i16
     coding::word(b[0], b[1])
 }
 
-// 32 bits, the low 16 first: the high ones by 65536, and the low ones; nothing clamps
+// A number of its low and its high sixteen bits.
+fn lifted(low: u16, high: i16) -> i32
+    ensures { λ r. ⌜ r ≡ high *ℤ pos 65536 +ℤ pos low ⌝ }
+{
+    (high as i32) * 65536 + (low as i32)
+}
+
+// 32 bits, the low 16 first
 pub fn long(b: &[u8]) -> i32
     requires { ⌜ length (now b) ≡ 4 ⌝ }
+    ensures { λ r. ⌜ r ≡ longOf (now (b .entry)) ⌝ }
 {
-    let low = coding::unsigned(b[0], b[1]) as i32;
-    let high = basicop::l_mult(coding::word(b[2], b[3]), 16384);
-    basicop::l_add(basicop::l_shl(high, 1), low)
+    lifted(coding::unsigned(b[0], b[1]), coding::word(b[2], b[3]))
 }
 
 pub fn ten(b: &[u8]) -> [i16; 10]

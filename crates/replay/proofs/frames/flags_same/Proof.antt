@@ -3,7 +3,8 @@ use borrow.Author.Needs.{needs}
 use mathlib.Core.Path.{sym, _∙_}
 use mir.Syntax.{w16}
 use Rattle.lists.proofs.Signed.{got}
-use Rattle.replay.proofs.Told.{told-of, four-flags}
+use Rattle.replay.proofs.Numbers.{four-flags}
+use Rattle.replay.proofs.Told.{told-of}
 use Rattle.replay.proofs.frames.flags_same.Statement.{statement}
 use Rattle.replay.proofs.frames.flags_same.Tie as tie
 

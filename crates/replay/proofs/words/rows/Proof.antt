@@ -4,7 +4,7 @@ use mathlib.Core.Path.{ap, _∙_}
 use mathlib.Core.List.{[], _∷_}
 use denote.Ref.{now}
 use Rattle.lists.specs.Parts.{joined}
-use Rattle.replay.proofs.Told.{stretches-joined}
+use Rattle.replay.proofs.Numbers.{stretches-joined}
 use Rattle.replay.proofs.words.rows.Statement.{statement}
 use Rattle.replay.proofs.words.rows.Tie as tie
 
