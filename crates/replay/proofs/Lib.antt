@@ -1,3 +1,3 @@
--- Numbers: the numbers of a record's bytes. Told: what a comparison says, by its parts and by loops.
+-- Numbers: the numbers of a record's bytes. Comparisons: what a comparison says, by its parts and by loops.
 pub mod Numbers
-pub mod Told
+pub mod Comparisons

@@ -3,7 +3,7 @@ use Prim.Native.Nat.{_≤_, _-_}
 use mathlib.Core.Path.{sym, _∙_}
 use lib.ListN.{length, replicate, length-replicate, getD-replicate}
 use borrow.Author.Needs.{needs}
-use Rattle.replay.proofs.Told.{Alike, alike-none, alike-more, alike-all, unlike}
+use Rattle.replay.proofs.Comparisons.{Alike, alike-none, alike-more, alike-all, unlike}
 use Rattle.replay.proofs.compare.all_are.Statement.{statement}
 use Rattle.replay.proofs.compare.all_are.Tie as tie
 

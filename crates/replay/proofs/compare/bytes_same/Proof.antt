@@ -2,7 +2,7 @@
 use Prim.Native.Nat.{_≤_, _-_}
 use lib.ListN.{length}
 use borrow.Author.Needs.{needs}
-use Rattle.replay.proofs.Told.{Alike, alike-none, alike-more, alike-all, unlike}
+use Rattle.replay.proofs.Comparisons.{Alike, alike-none, alike-more, alike-all, unlike}
 use Rattle.replay.proofs.compare.bytes_same.Statement.{statement}
 use Rattle.replay.proofs.compare.bytes_same.Tie as tie
 

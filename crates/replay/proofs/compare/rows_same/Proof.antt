@@ -4,7 +4,7 @@ use mathlib.Core.List.{[], _∷_}
 use denote.Ref.{now}
 use Rattle.decoder.specs.Core.{rowList}
 use Rattle.lists.proofs.Parts.{Counted}
-use Rattle.replay.proofs.Told.{told-parts, told-four}
+use Rattle.replay.proofs.Comparisons.{tells-parts, tells-four}
 use Rattle.replay.proofs.compare.rows_same.Statement.{statement}
 use Rattle.replay.proofs.compare.rows_same.Tie as tie
 
@@ -18,8 +18,8 @@ returns c =
     let u = t .before .before in
     let v = u .before .before in
     let s = v .before .before .before .before .before .before .before in
-    told-parts (now (s .args .b)) (11 ∷ 11 ∷ 11 ∷ 11 ∷ []) (rowList (s .args .rows)) (s .pre) (counted (v .before .before .before .before .before))
-    (told-four (v .row-same .ensures) (u .row-same2 .ensures) (t .row-same3 .ensures) (c .row-same4 .ensures))
+    tells-parts (now (s .args .b)) (11 ∷ 11 ∷ 11 ∷ 11 ∷ []) (rowList (s .args .rows)) (s .pre) (counted (v .before .before .before .before .before))
+    (tells-four (v .row-same .ensures) (u .row-same2 .ensures) (t .row-same3 .ensures) (c .row-same4 .ensures))
 
 pub rows-same-spec : {M : Type 1} → statement M
 rows-same-spec =

@@ -9,7 +9,7 @@ use mir.Syntax.{w16}
 use mir.Val.{ofZ}
 use Rattle.coding.specs.Bytes.{words}
 use Rattle.replay.proofs.Numbers.{words-length, word-at, same-bits}
-use Rattle.replay.proofs.Told.{Alike, alike-none, alike-more, alike-all, unlike}
+use Rattle.replay.proofs.Comparisons.{Alike, alike-none, alike-more, alike-all, unlike}
 use Rattle.replay.proofs.compare.same.Statement.{statement}
 use Rattle.replay.proofs.compare.same.Tie as tie
 
