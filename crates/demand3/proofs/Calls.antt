@@ -41,7 +41,7 @@ frame-in inputs s u w k o =
 
 pub call-refused : (s : State) (c : Call) (m : Machine) → accepted (traceOf s c) ≡ false → RefusedCall s (traceOf s c) m
 unfolding machineAfterSubframes
-call-refused s c m e = subst (λ (t : Trace). RefusedCall s t m) (sym (refuses s c e .trace)) (record { none = refl; machine = refl; state = refl })
+call-refused s c m e = subst (λ (t : Trace). RefusedCall s t m) (sym (refuses s c e .trace)) (record { none = refl; no-tilt = refl; no-quotient = refl; machine = refl; state = refl })
 
 module _ (s : State) (c : Call) (w : WellFormed s) where
   -- an accepted call, as demand 3 has it

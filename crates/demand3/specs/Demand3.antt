@@ -71,6 +71,8 @@ pub record AcceptedCall (t : Trace) (m : Machine) : Type 0 where
 -- ---- a refused call, on the state s: "A refused call has no subframe and leaves both."
 pub record RefusedCall (s : State) (t : Trace) (m : Machine) : Type 0 where
   pub none : t .subframes ≡ []
+  pub no-tilt : t .tilts ≡ []
+  pub no-quotient : t .quotients ≡ []
   pub machine : machineAfterCall m t ≡ m
   pub state : t .next ≡ s
 

@@ -1,3 +1,4 @@
 pub mod Energy
 pub mod Root
 pub mod Gain
+pub mod Divisions

@@ -1,6 +1,7 @@
--- Lists of integers by their entries, and steps that are counted: what the definitions of all stages are written with. What holds of every entry of a list.
-use Prim.Native.Nat.{ℕ, zero, suc}
-use mathlib.Core.Bool.{Bool, false}
+-- Lists of integers by their entries, and steps that are counted: what the definitions of all stages are written with. What holds of every entry of a list,
+-- and how many tests are true.
+use Prim.Native.Nat.{ℕ, zero, suc, _+_}
+use mathlib.Core.Bool.{Bool, false, cond}
 use mathlib.Core.List.{List, [], _∷_, _++_}
 use lib.Dec.{eqb}
 use lib.IntN.{ℤ, pos, negsuc, negℤ}
@@ -45,6 +46,14 @@ pairwise f (x ∷ xs) (y ∷ ys) = f x y ∷ pairwise f xs ys
 -- y with one entry more, which is made from y: step n of a recursion that feeds on its own entries
 abbrev pub grow : (ℕ → List ℤ → ℤ) → ℕ → List ℤ → List ℤ
 grow g n y = y ++ (g n y ∷ [])
+
+-- how many of the tests are true: each is one, or none
+unfoldable pub oneIf : Bool → ℕ
+oneIf b = cond b 1 0
+
+abbrev pub count : List Bool → ℕ
+count [] = 0
+count (b ∷ bs) = oneIf b + count bs
 
 -- P holds of every entry
 abbrev pub Every : {A : Type 0} → (A → Type 0) → List A → Type 0

@@ -1,4 +1,5 @@
 pub mod Sheet
 pub mod Checks
 pub mod Frame
+pub mod Divisions
 pub mod Inner

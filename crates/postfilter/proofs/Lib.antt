@@ -1,5 +1,5 @@
 -- Lists: pairs with a longer list. Weights, Impulses, Preemphases: entries and lengths of a weighted row, of the impulse response, of preemphasis. Residuals: the residual's sum where no step can clamp.
--- Correlations, Tilts: the correlation is at most the energy, so that the tilt's division is in order. Subframes, Frames: as the code goes. Results: what a subframe and a frame give.
+-- Correlations, Tilts: the correlation is at most the energy, so that the tilt's division is in order. Subframes, Frames: as the code goes. Results: what a subframe and a frame give. Divisions: how often they divide.
 pub mod Lists
 pub mod Weights
 pub mod Impulses
@@ -10,3 +10,4 @@ pub mod Residuals
 pub mod Subframes
 pub mod Frames
 pub mod Results
+pub mod Divisions

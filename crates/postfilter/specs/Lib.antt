@@ -4,3 +4,4 @@ pub mod Tilt
 pub mod Preemphasis
 pub mod Postfilter
 pub mod Tilted
+pub mod Divisions
