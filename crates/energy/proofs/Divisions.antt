@@ -1,7 +1,7 @@
 -- agc2 and agc tell one quotient where `gainDivides` says so, and else none. Assumes nothing.
 use mathlib.Core.Path.{_≡_, refl, _∙_}
 use mathlib.Core.Bool.{Bool, true, false, cond, not, _&&_}
-use mathlib.Core.List.{List, [], map}
+use mathlib.Core.List.{List, []}
 use Prim.Native.Nat.{ℕ}
 use native.Mathlib.Omega.{arith}
 use lib.IntN.{ℤ, pos}
@@ -9,7 +9,7 @@ use lib.ListN.{length, length-append}
 use Rattle.lists.specs.Lists.{eqZ, oneIf}
 use Rattle.basicop.specs.Divided.{Divided, undivided, after}
 use Rattle.energy.specs.Energy.{energy}
-use Rattle.energy.specs.Gain.{energyGain, scaledBy, target, controlled, agc2, agc}
+use Rattle.energy.specs.Gain.{energyGain, agc2, agc}
 use Rattle.energy.specs.Divisions.{gainDivides}
 
 -- how many quotients are told
@@ -25,22 +25,19 @@ gain-divisions out into = go (eqZ into (pos 0)) refl
     go false e = rw e refl
 
 module _ (into out : List ℤ) where
-  -- nothing at an output energy of 0, else what f makes of the gain: the shape of both
-  by-energy : {A : Type 0} (none : A) (f : ℤ → A) → told (cond (eqZ (energy out) (pos 0)) (undivided none) (after (energyGain (energy out) (energy into)) (λ (g : ℤ). undivided (f g)))) ≡ oneIf (gainDivides into out)
+  -- one value at an output energy of 0, else another after the gain, whatever the two are
+  by-energy : {A : Type 0} (none some : A) → told (cond (eqZ (energy out) (pos 0)) (undivided none) (after (energyGain (energy out) (energy into)) (λ (g : ℤ). undivided some))) ≡ oneIf (gainDivides into out)
   unfolding oneIf
-  by-energy {A} none f = go (eqZ (energy out) (pos 0))
+  by-energy none some = go (eqZ (energy out) (pos 0))
     where
-      some : Divided A
-      some = after (energyGain (energy out) (energy into)) (λ (g : ℤ). undivided (f g))
-
-      go : (t : Bool) → told (cond t (undivided none) some) ≡ oneIf (not t && not (eqZ (energy into) (pos 0)))
+      go : (t : Bool) → told (cond t (undivided none) (after (energyGain (energy out) (energy into)) (λ (g : ℤ). undivided some))) ≡ oneIf (not t && not (eqZ (energy into) (pos 0)))
       go true = refl
       go false = length-append (energyGain (energy out) (energy into) .quotients) [] ∙ omega (arith, gain-divisions (energy out) (energy into))
 
   pub agc2-divisions : told (agc2 into out) ≡ oneIf (gainDivides into out)
   unfolding agc2
-  agc2-divisions = by-energy out (λ (g : ℤ). map (scaledBy g) out)
+  agc2-divisions = by-energy _ _
 
   pub agc-divisions : (gain : ℤ) → told (agc gain into out) ≡ oneIf (gainDivides into out)
   unfolding agc
-  agc-divisions gain = by-energy (record { samples = out; control = record { «previous_gain» = pos 0 } }) (λ (g : ℤ). controlled (target g) gain out)
+  agc-divisions gain = by-energy _ _
