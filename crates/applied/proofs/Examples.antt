@@ -35,7 +35,7 @@ use Rattle.state.specs.Layout.{coreOf, postOf, stateOf}
 use Rattle.mr74.specs.Checks.{frameOutcome}
 use Rattle.mr74.specs.Frame.{frameTrace}
 use Rattle.calls.specs.Calls.{traceOf, runCalls, anyAccepted, latestFlag}
-use Rattle.values.specs.Examples.{silent, loud, call, Seen, seen, expected, Example, ordered, FrameOrder, placed, Places}
+use Rattle.applied.specs.Examples.{silent, loud, call, Seen, seen, expected, Example, RefusedTrace, ordered, FrameOrder, placed, Places}
 
 -- n zeros
 zeros : (n : ℕ) → Words n (replicate n (pos 0))
@@ -74,6 +74,10 @@ example =
       any = ap (λ (e : Seen). e .accepted || false) seen-is;
       latest = ap (λ (e : Seen). cond (e .accepted) (getD (e .flags) 3 false) false) seen-is;
     }
+
+pub refused-trace : RefusedTrace
+unfolding frameTrace frameOutcome firstMet
+refused-trace s = refl
 
 pub frame-order : FrameOrder
 unfolding ordered stateOf coreOf postOf firstMet firstOutside frameOutcome

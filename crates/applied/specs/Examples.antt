@@ -1,16 +1,17 @@
--- Demand 3 speaks of something: from an accepted state a call that is accepted, with subframes that are retried and subframes that are not, and that
--- divides at every place where the definition can. And calls that each check of the frame order turns back.
--- The theorems are `example`, `frame-order` and `places` in proofs/Examples.antt: each value is computed from the definition.
+-- A call that demand 3 speaks of: from an accepted state, accepted, with subframes that are retried and subframes that are not, and it divides at every
+-- place where the definition can. A call that is refused. And calls that each check of the frame order turns back.
+-- The theorems are `example`, `refused-trace`, `frame-order` and `places` in proofs/Examples.antt: each value is computed from the definition.
 use mathlib.Core.Path.{_≡_}
 use mathlib.Core.Bool.{Bool, true, false}
 use Prim.Native.Nat.{ℕ, _-_}
-use mathlib.Core.List.{List, [], _∷_, _++_, map}
+use mathlib.Core.List.{List, [], _∷_, _++_}
 use lib.IntN.{ℤ, pos}
 use lib.ListN.{replicate}
 use Rattle.lists.specs.Lists.{minus, at}
 use Rattle.basicop.specs.Ops.{Quotient}
+use Rattle.pitch.specs.Lag.{Lag}
 use Rattle.state.specs.declared.State.{State}
-use Rattle.outcome.specs.declared.Outcome.the-variants.{Accepted}
+use Rattle.outcome.specs.declared.Outcome.the-variants.{Accepted, SheetLength}
 use Rattle.outcome.specs.Outcome.{numberOf, placeOf}
 use Rattle.state.specs.State.{WellFormed, stateOutcome}
 use Rattle.state.specs.Layout.{stateOf}
@@ -33,42 +34,59 @@ loud =
 abbrev pub call : Call
 call = FrameCall loud (replicate 160 (pos 0))
 
--- the call, and after it one with no sheet and no output, which is refused
-abbrev pub calls : List Call
-calls = call ∷ FrameCall [] [] ∷ []
+-- a call with no sheet and no output, which is refused
+abbrev pub emptyCall : Call
+emptyCall = FrameCall [] []
 
--- of a call: whether it was accepted, flags, tilts, divisors, and of the state given back sharpening and the newest excitation
+abbrev pub calls : List Call
+calls = call ∷ emptyCall ∷ []
+
+-- of a call: whether it was accepted, lags, flags, tilts, quotients, and of the state given back sharpening, smoothed gain and
+-- the newest excitation
 pub record Seen : Type 0 where
   pub accepted : Bool
+  pub lags : List Lag
   pub flags : List Bool
   pub tilts : List ℤ
-  pub divisors : List ℤ
+  pub quotients : List Quotient
   pub sharpening : ℤ
+  pub gain : ℤ
   pub newest : ℤ
 
 abbrev pub seen : Trace → Seen
 seen t =
     record {
       accepted = accepted t;
+      lags = t .lags;
       flags = t .flags;
       tilts = t .tilts;
-      divisors = map (λ (q : Quotient). q .divisor) (t .quotients);
+      quotients = t .quotients;
       sharpening = t .next .core .sharpening .0;
+      gain = t .next .post .gain .«previous_gain»;
       newest = at (t .next .core .past) 153;
     }
 
--- The first and the last subframe were retried. Each subframe has a tilt above 0. Twelve divisions: enhancement in each subframe; then in each the
--- tilt and the gain control. Sharpening, and the past after a retry, reach the upper ends of their ranges
+abbrev pub lag : ℕ → ℕ → Lag
+lag samples thirds = record { samples = pos samples; thirds = pos thirds }
+
+abbrev pub quotient : ℕ → ℕ → Quotient
+quotient value divisor = record { value = pos value; divisor = pos divisor }
+
+-- The first and the last subframe were retried. Each subframe has a tilt above 0. Twelve quotients, each by its value and its divisor: enhancement in each
+-- subframe; then in each the tilt, whose value is the tilt above, and the gain control. Sharpening, and the past after a retry, reach the upper ends of their ranges
 abbrev pub expected : Seen
 expected =
     record {
       accepted = true;
+      lags = lag 19 1 ∷ lag 19 1 ∷ lag 19 1 ∷ lag 19 1 ∷ [];
       flags = true ∷ false ∷ false ∷ true ∷ [];
       tilts = pos 25275 ∷ pos 935 ∷ pos 1469 ∷ pos 2399 ∷ [];
-      divisors =
-          pos 25000 ∷ pos 19131 ∷ pos 20072 ∷ pos 32767
-          ∷ pos 32767 ∷ pos 32767 ∷ pos 806 ∷ pos 20414 ∷ pos 602 ∷ pos 22421 ∷ pos 519 ∷ pos 28803 ∷ [];
+      quotients =
+          quotient 16384 25000 ∷ quotient 18246 19131 ∷ quotient 24917 20072 ∷ quotient 16384 32767
+          ∷ quotient 25275 32767 ∷ quotient 16384 32767 ∷ quotient 935 806 ∷ quotient 13725 20414
+          ∷ quotient 1469 602 ∷ quotient 15763 22421 ∷ quotient 2399 519 ∷ quotient 16043 28803 ∷ [];
       sharpening = pos 13017;
+      gain = pos 4107;
       newest = pos 8191;
     }
 
@@ -80,6 +98,26 @@ pub record Example : Type 0 where
   -- the list meets both conditions: a call was accepted, and the last subframe of the latest accepted one was retried
   pub any : anyAccepted (runCalls silent calls) ≡ true
   pub latest : latestFlag false (runCalls silent calls) ≡ true
+
+-- the refused call's trace, from any state: no list of it has an entry but the four flags and the rows
+abbrev pub zeroRow : List ℤ
+zeroRow = replicate 11 (pos 0)
+
+abbrev pub RefusedTrace : Type 0
+RefusedTrace =
+    (s : State)
+    → traceOf s emptyCall
+    ≡ record {
+      outcome = SheetLength;
+      rows = record { a = zeroRow; b = zeroRow; c = zeroRow; d = zeroRow };
+      lags = [];
+      subframes = [];
+      flags = false ∷ false ∷ false ∷ false ∷ [];
+      tilts = [];
+      quotients = [];
+      output = [];
+      next = s;
+    }
 
 -- ---- refusals: number and place
 pub record Refusal : Type 0 where

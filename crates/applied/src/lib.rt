@@ -1,0 +1,1 @@
+// The top theorems, applied to concrete calls, states and records; no function.
