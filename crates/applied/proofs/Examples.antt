@@ -2,14 +2,9 @@
 use mathlib.Core.Path.{_≡_, refl, ap}
 use mathlib.Core.Bool.{false, cond, _||_}
 use mathlib.Core.List.{flatMap}
-use Prim.Native.Nat.{ℕ, zero, suc}
-use lib.IntN.{pos}
-use lib.ListN.{replicate, getD, length-replicate}
-use mir.Syntax.{w16}
-use mir.Val.{SFits}
-use Rattle.lists.specs.Lists.{at, iter, tab}
+use lib.ListN.{getD}
+use Rattle.lists.specs.Lists.{iter, tab}
 use Rattle.basicop.specs.Ops.{clamp, asr, wrap, add, sub, mult, shl, L-add, L-sub, L-mult, L-shl, L-shr-r, L-deposit-h, doublings, norm-l, div-s, L-Extract, Mpy-32-16}
-use Rattle.basicop.specs.Words.{Words}
 use Rattle.basicop.proofs.Words.{zero-fits}
 use Rattle.pitch.specs.Lag.{absolute, lag-min, relative}
 use Rattle.spectral.specs.Lsp.{cosine, between, lspOf}
@@ -36,15 +31,7 @@ use Rattle.mr74.specs.Checks.{frameOutcome}
 use Rattle.mr74.specs.Frame.{frameTrace}
 use Rattle.calls.specs.Calls.{traceOf, runCalls, anyAccepted, latestFlag}
 use Rattle.applied.specs.Examples.{silent, loud, call, Seen, seen, expected, Example, RefusedTrace, ordered, FrameOrder, placed, Places}
-
--- n zeros
-zeros : (n : ℕ) → Words n (replicate n (pos 0))
-zeros n = record { count = length-replicate n (pos 0); fit = fit n }
-  where
-    fit : (n i : ℕ) → SFits w16 (at (replicate n (pos 0)) i)
-    fit zero i = zero-fits
-    fit (suc n) zero = zero-fits
-    fit (suc n) (suc i) = fit n i
+use Rattle.applied.proofs.Concrete.{zeros}
 
 silent-well-formed : WellFormed silent
 unfolding silent stateOf coreOf postOf

@@ -1,2 +1,6 @@
+pub mod Concrete
 pub mod Starred
 pub mod Examples
+pub mod Demand3
+pub mod Calls
+pub mod Handover

@@ -1,0 +1,35 @@
+-- What premises ask of lists that are written out: zeros are numbers of 16 bits, and bytes are bytes by a test. Assumes nothing.
+use Prim.Native.Nat.{ℕ, zero, suc}
+use mathlib.Core.Path.{_≡_}
+use mathlib.Core.Bool.{Bool, true, _&&_}
+use mathlib.Core.List.{List, [], _∷_}
+use lib.Dec.{ltb, lit<}
+use lib.IntN.{pos}
+use lib.ListN.{replicate, length-replicate}
+use mir.Syntax.{w16}
+use mir.Val.{SFits}
+use borrow.Author.Tests.{ltb-true}
+use Rattle.lists.specs.Lists.{at}
+use Rattle.basicop.specs.Words.{Words}
+use Rattle.basicop.proofs.Words.{zero-fits}
+use Rattle.basicop.proofs.Tests.{and-left, and-right}
+use Rattle.coding.specs.Bytes.{Bytes}
+
+-- n zeros
+pub zeros : (n : ℕ) → Words n (replicate n (pos 0))
+zeros n = record { count = length-replicate n (pos 0); fit = fit n }
+  where
+    fit : (n i : ℕ) → SFits w16 (at (replicate n (pos 0)) i)
+    fit zero i = zero-fits
+    fit (suc n) zero = zero-fits
+    fit (suc n) (suc i) = fit n i
+
+-- every number is below 256, as a test
+abbrev pub allBytes : List ℕ → Bool
+allBytes [] = true
+allBytes (x ∷ b) = ltb x 256 && allBytes b
+
+pub bytes-by : (b : List ℕ) → allBytes b ≡ true → Bytes b
+bytes-by [] e i = lit< tt
+bytes-by (x ∷ b) e zero = ltb-true x 256 (and-left (ltb x 256) (allBytes b) e)
+bytes-by (x ∷ b) e (suc i) = bytes-by b (and-right (ltb x 256) (allBytes b) e) i
