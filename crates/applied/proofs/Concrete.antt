@@ -4,7 +4,8 @@ use mathlib.Core.Path.{_≡_}
 use mathlib.Core.Bool.{Bool, true, _&&_}
 use mathlib.Core.List.{List, [], _∷_}
 use lib.Dec.{ltb, lit<}
-use lib.IntN.{pos}
+use lib.IntN.{ℤ, pos}
+use lib.Signed.{mag}
 use lib.ListN.{replicate, length-replicate}
 use mir.Syntax.{w16}
 use mir.Val.{SFits}
@@ -23,6 +24,16 @@ zeros n = record { count = length-replicate n (pos 0); fit = fit n }
     fit zero i = zero-fits
     fit (suc n) zero = zero-fits
     fit (suc n) (suc i) = fit n i
+
+-- every number is one of 16 bits, as a test
+abbrev pub allFit : List ℤ → Bool
+allFit [] = true
+allFit (x ∷ xs) = ltb (mag x) 32768 && allFit xs
+
+pub fits-by : (xs : List ℤ) → allFit xs ≡ true → (i : ℕ) → SFits w16 (at xs i)
+fits-by [] e i = zero-fits
+fits-by (x ∷ xs) e zero = record { sfits = ltb-true (mag x) 32768 (and-left (ltb (mag x) 32768) (allFit xs) e) }
+fits-by (x ∷ xs) e (suc i) = fits-by xs (and-right (ltb (mag x) 32768) (allFit xs) e) i
 
 -- every number is below 256, as a test
 abbrev pub allBytes : List ℕ → Bool

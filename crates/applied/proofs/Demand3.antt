@@ -4,26 +4,22 @@ use mathlib.Core.Path.{_≡_, refl, sym, ap, _∙_, subst}
 use mathlib.Core.Bool.{Bool, true, false}
 use mathlib.Core.List.{List, [], _∷_, map}
 use native.Mathlib.Omega.{arith}
-use lib.IntN.{ℤ, pos}
+use lib.IntN.{ℤ}
 use lib.ListN.{length, getD}
 use Rattle.lists.specs.Lists.{at}
 use Rattle.decoder.specs.Core.{SubframeResult}
 use Rattle.mr74.specs.Frame.{Trace}
-use Rattle.calls.specs.Calls.{accepted}
+use Rattle.state.specs.declared.State.{State}
+use Rattle.calls.specs.Calls.{stateAfter, accepted}
 use Rattle.demand3.specs.Measure.{Machine, heldSamples}
 use Rattle.demand3.specs.Demand3.{AsMeasured, SubframesAsMeasured, AcceptedCall, RefusedCall, Demand3}
 use Rattle.demand3.proofs.Demand3.{demand-3}
 use Rattle.applied.specs.Examples.{silent, calls, Seen}
-use Rattle.applied.specs.Demand3.{first, second, opened, afterCall, AfterList, Lengths, Retried, Unretried, Subframes, FirstCall, SecondCall}
+use Rattle.applied.specs.Demand3.{first, second, opened, afterCall, last, AfterList, Lengths, Retried, Unretried, Subframes, FirstCall, SecondCall}
 use Rattle.applied.proofs.Examples.{example, refused-trace}
 
 theorem : Demand3 silent calls
 theorem = demand-3 silent (example .well-formed) (example .state) calls
-
-pub after-list : AfterList
-after-list =
-    let past = theorem .past (example .latest) in
-    record { sharpening = theorem .sharpening (example .any); gain = theorem .gain (example .any); past = past .0; past-range = past .1 }
 
 -- ---- the calls, by what `example` and `refused-trace` say of them
 accepted-first : AcceptedCall first opened
@@ -34,6 +30,24 @@ refused-second = theorem .calls .1 .1 .1 .0 (ap (λ (t : Trace). accepted t) (re
 
 pub second-call : SecondCall
 second-call = record { none = refused-second .none; machine = refused-second .machine; state = refused-second .state }
+
+-- ---- the state after the list is that of the first call
+last-is : last ≡ first .next
+unfolding stateAfter
+last-is = refused-second .state
+
+pub after-list : AfterList
+after-list =
+    let past = theorem .past (example .latest) in
+    record {
+      sharpening = theorem .sharpening (example .any);
+      gain = theorem .gain (example .any);
+      past = past .0;
+      past-range = past .1;
+      sharpening-is = ap (λ (s : State). s .core .sharpening .0) last-is ∙ ap (λ (e : Seen). e .sharpening) (example .call);
+      gain-is = ap (λ (s : State). s .post .gain .«previous_gain») last-is ∙ ap (λ (e : Seen). e .gain) (example .call);
+      newest-is = ap (λ (s : State). at (s .core .past) 153) last-is ∙ ap (λ (e : Seen). e .newest) (example .call);
+    }
 
 -- ---- a subframe
 module _ (m : Machine) (u : SubframeResult) (k : AsMeasured (u .input) m (u .synthesis)) where

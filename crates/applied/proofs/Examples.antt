@@ -30,7 +30,7 @@ use Rattle.state.specs.Layout.{coreOf, postOf, stateOf}
 use Rattle.mr74.specs.Checks.{frameOutcome}
 use Rattle.mr74.specs.Frame.{frameTrace}
 use Rattle.calls.specs.Calls.{traceOf, runCalls, anyAccepted, latestFlag}
-use Rattle.applied.specs.Examples.{silent, loud, call, Seen, seen, expected, Example, RefusedTrace, ordered, FrameOrder, placed, Places}
+use Rattle.applied.specs.Examples.{silent, loud, call, Seen, seen, expected, Example, RefusedTrace}
 use Rattle.applied.proofs.Concrete.{zeros}
 
 silent-well-formed : WellFormed silent
@@ -65,11 +65,3 @@ example =
 pub refused-trace : RefusedTrace
 unfolding frameTrace frameOutcome firstMet
 refused-trace s = refl
-
-pub frame-order : FrameOrder
-unfolding ordered stateOf coreOf postOf firstMet firstOutside frameOutcome
-frame-order = refl
-
-pub places : Places
-unfolding placed stateOf coreOf postOf firstMet firstOutside frameOutcome
-places = refl

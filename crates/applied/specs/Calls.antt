@@ -1,6 +1,6 @@
 -- The laws of lists of calls (calls/proofs) applied to the calls of Examples.antt. The theorem is `calls-applied` in proofs/Calls.antt.
 use mathlib.Core.Path.{_≡_}
-use mathlib.Core.List.{List, [], _∷_, _++_}
+use mathlib.Core.List.{[], _∷_, _++_}
 use Rattle.state.specs.declared.State.{State}
 use Rattle.outcome.specs.declared.Outcome.the-variants.{Accepted}
 use Rattle.state.specs.State.{WellFormed, stateOutcome}

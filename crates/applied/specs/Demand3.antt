@@ -2,14 +2,13 @@
 -- each of its clauses is written out, with its premise met. The theorems are in proofs/Demand3.antt.
 use mathlib.Core.Path.{_≡_}
 use mathlib.Core.Bool.{true, false}
-use mathlib.Core.List.{List, [], _∷_, map}
+use mathlib.Core.List.{[], _∷_, map}
 use lib.IntN.{ℤ, pos, negsuc}
 use lib.ListN.{length}
 use lib.Signed.{_≤ℤ_}
 use Rattle.lists.specs.Lists.{at, Every}
 use Rattle.basicop.specs.Ops.{Quotient}
 use Rattle.synthesis.specs.Whole.{wholeSamples, retried}
-use Rattle.decoder.specs.Subframe.{SynthesisInput}
 use Rattle.decoder.specs.Core.{SubframeResult}
 use Rattle.state.specs.declared.State.{State}
 use Rattle.mr74.specs.Frame.{Trace}
@@ -43,6 +42,10 @@ pub record AfterList : Type 0 where
   pub gain : (pos 0 ≤ℤ last .post .gain .«previous_gain») × (last .post .gain .«previous_gain» ≤ℤ pos 32765)
   pub past : length (last .core .past) ≡ 154
   pub past-range : Every (λ (z : ℤ). (negsuc 8191 ≤ℤ z) × (z ≤ℤ pos 8191)) (last .core .past)
+  -- what `example` has of them, which the refused call leaves: 13017 and 8191 are reached
+  pub sharpening-is : last .core .sharpening .0 ≡ pos 13017
+  pub gain-is : last .post .gain .«previous_gain» ≡ pos 4106
+  pub newest-is : at (last .core .past) 153 ≡ pos 8191
 
 -- ---- a subframe u, with the machine m before it
 pub record Lengths (m : Machine) (u : SubframeResult) : Type 0 where

@@ -1,4 +1,5 @@
--- Document 01's starred values ("Values to hold"), as one statement over one list, about the definitions.
+-- Document 01's starred values ("Values to hold"), as one statement over one list, about the definitions. The theorem is `starred-hold` in
+-- proofs/Starred.antt; `starred-applied` takes some of them out again.
 use mathlib.Core.Path.{_≡_}
 use mathlib.Core.List.{List, [], _∷_}
 use lib.IntN.{ℤ, pos}
@@ -51,3 +52,10 @@ starred =
 abbrev pub Hold : List Value → Type 0
 Hold [] = Unit
 Hold (v ∷ vs) = (v .given ≡ v .paper) × Hold vs
+
+-- ---- the first, the last and two between them as equations of their own
+pub record StarredApplied : Type 0 where
+  pub lsp : lspOf (pos 0) ≡ pos 32767
+  pub thirds : relative (pos 31) (pos 143) .thirds ≡ minus 1
+  pub root : inverseRoot (pos 2) ≡ pos 759234560
+  pub clamp : pos (overflowedAt 10 (pos 4096 ∷ minus 4096 ∷ replicate 9 (pos 0)) (pos 32767 ∷ pos 1 ∷ replicate 38 (pos 0)) (replicate 10 (pos 0))) ≡ pos 1

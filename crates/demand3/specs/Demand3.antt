@@ -95,5 +95,7 @@ pub record Demand3 (s : State) (cs : List Call) : Type 0 where
   pub calls : EachCall s (opening s) cs
 
 -- from any accepted state, for every list of calls, refused ones included, of any sheets and outputs, the empty list too
+-- "accepted" is the demand's own word, and stands here for the reader: the proof does not need it (`demand-3-any` has the claim without it), since from
+-- a state that is turned back no call is accepted
 abbrev pub Demand3-holds : Type 0
 Demand3-holds = (s : State) → WellFormed s → stateOutcome s ≡ Accepted → (cs : List Call) → Demand3 s cs
