@@ -14,7 +14,7 @@ use Rattle.calls.specs.Calls.{stateAfter, accepted}
 use Rattle.demand3.specs.Measure.{Machine, heldSamples}
 use Rattle.demand3.specs.Demand3.{AsMeasured, SubframesAsMeasured, AcceptedCall, RefusedCall, Demand3}
 use Rattle.demand3.proofs.Demand3.{demand-3}
-use Rattle.applied.specs.Examples.{silent, calls, Seen}
+use Rattle.applied.specs.Examples.{silent, calls, Seen, expected}
 use Rattle.applied.specs.Demand3.{first, second, opened, afterCall, last, AfterList, Lengths, Retried, Unretried, Subframes, FirstCall, SecondCall}
 use Rattle.applied.proofs.Examples.{example, refused-trace}
 
@@ -90,7 +90,7 @@ four (a ∷ b ∷ c ∷ d ∷ u ∷ us) e = absurd (omega (arith, e))
 abbrev flagsIn : List SubframeResult → List Bool
 flagsIn us = map (λ (u : SubframeResult). u .synthesis .retried) us
 
-flags-are : flagsIn (first .subframes) ≡ true ∷ false ∷ false ∷ true ∷ []
+flags-are : flagsIn (first .subframes) ≡ expected .flags
 flags-are = sym (accepted-first .flags) ∙ ap (λ (e : Seen). e .flags) (example .call)
 
 subframes-are : Subframes
