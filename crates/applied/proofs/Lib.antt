@@ -1,3 +1,4 @@
+-- Concrete: what premises ask of lists that are written out. The others: the files of specs/ by the same names.
 pub mod Concrete
 pub mod Starred
 pub mod Examples

@@ -1,3 +1,4 @@
+-- Starred, Examples, Refusals: values, a call and refusals, computed from the definition. The others: the theorems at the top, applied.
 pub mod Starred
 pub mod Examples
 pub mod Refusals
