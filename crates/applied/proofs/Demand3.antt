@@ -29,7 +29,9 @@ refused-second : RefusedCall (first .next) second (afterCall opened first)
 refused-second = theorem .calls .1 .1 .1 .0 (ap (λ (t : Trace). accepted t) (refused-trace (first .next)))
 
 pub second-call : SecondCall
-second-call = record { none = refused-second .none; machine = refused-second .machine; state = refused-second .state }
+second-call =
+    let r = refused-second in
+    record { none = r .none; no-tilt = r .no-tilt; no-quotient = r .no-quotient; machine = r .machine; state = r .state }
 
 -- ---- the state after the list is that of the first call
 last-is : last ≡ first .next

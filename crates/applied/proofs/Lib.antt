@@ -4,8 +4,10 @@ pub mod Starred
 pub mod Examples
 pub mod Refusals
 pub mod Demand3
+pub mod Divisions
 pub mod Calls
 pub mod Handover
 pub mod Synthesis
 pub mod Postfilter
 pub mod Capi
+pub mod Listing

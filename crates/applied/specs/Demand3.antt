@@ -97,5 +97,7 @@ pub record FirstCall : Type 0 where
 -- ---- the second, which is refused
 pub record SecondCall : Type 0 where
   pub none : second .subframes ≡ []
+  pub no-tilt : second .tilts ≡ []
+  pub no-quotient : second .quotients ≡ []
   pub machine : afterCall (afterCall opened first) second ≡ afterCall opened first
   pub state : second .next ≡ first .next

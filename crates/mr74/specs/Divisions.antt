@@ -1,5 +1,5 @@
 -- How many divisions a frame reaches. Document 01: "A divisor is any number that the definition divides by, at a division it reaches".
--- A count by the cases that divide, beside the quotients that the trace tells. The theorems are `all-told` and `frame-divisions` in proofs/Divisions.antt.
+-- A count by the cases that divide, beside the quotients that the trace tells. The theorems are `every-division` and `frame-divisions` in proofs/Divisions.antt.
 use mathlib.Core.Path.{_≡_}
 use mathlib.Core.Bool.{true}
 use mathlib.Core.List.{List}
@@ -32,8 +32,8 @@ abbrev pub divisionsOf : FrameInputs → State → ℕ
 divisionsOf inputs s = enhancementDivisions inputs s + (tiltDivisions inputs s + controlDivisions inputs s)
 
 -- a trace tells each of them: of any inputs and state, and of an accepted sheet
-abbrev pub AllTold : Type 0
-AllTold = (o : Outcome) (inputs : FrameInputs) (s : State) → length (acceptedTrace o inputs s .quotients) ≡ divisionsOf inputs s
+abbrev pub EveryDivision : Type 0
+EveryDivision = (o : Outcome) (inputs : FrameInputs) (s : State) → length (acceptedTrace o inputs s .quotients) ≡ divisionsOf inputs s
 
 abbrev pub FrameDivisions : Type 0
 FrameDivisions =
