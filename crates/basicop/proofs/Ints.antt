@@ -1,4 +1,4 @@
--- ℤ by its two parts: z is up z - dn z, one of which is 0. Every linear fact over ℤ is one over ℕ.
+-- ℤ by its two parts: z is up z - dn z, one of which is 0. Every linear fact over ℤ is one over ℕ. Assumes nothing.
 use mathlib.Core.Path.{_≡_, refl, ap, subst}
 use mathlib.Core.Bool.{Bool, true, false, not, cond}
 use Prim.Native.Nat.{ℕ, zero, suc, max, _+_, _*_, _-_, _^_, _<_, _≤_}

@@ -1,4 +1,4 @@
-// What the programs of the bench read: a record, then sheets one by one.
+// What a program of the bench reads: a record, then sheets one by one.
 ghost use mathlib.Core.Path.{_≡_};
 ghost use lib.ListN.{length, take};
 ghost use Rattle.mr74.specs.Frame.{callResult};
