@@ -1,4 +1,5 @@
--- Starred, Examples, Refusals, Listing: values, a call, refusals and the bench program's listing, computed from the definition. The others: the theorems at the top, applied.
+-- Starred, Examples, Refusals, Listing: values, a call, refusals and the bench program's listing, computed from the definition.
+-- The others: the theorems at the top, applied.
 pub mod Starred
 pub mod Examples
 pub mod Refusals

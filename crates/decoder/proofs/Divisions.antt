@@ -19,7 +19,7 @@ use Rattle.adaptive.specs.Predict.{predicted}
 use Rattle.excitation.specs.Excitation.{sharpening}
 use Rattle.energy.specs.Gain.{agc2}
 use Rattle.energy.specs.Divisions.{gainDivides}
-use Rattle.energy.proofs.Divisions.{told, agc2-divisions}
+use Rattle.energy.proofs.Divisions.{quotientCount, agc2-divisions}
 use Rattle.decoder.specs.declared.Core.{Core}
 use Rattle.decoder.specs.Inputs.{SubframeInputs, FrameInputs}
 use Rattle.decoder.specs.Enhance.{enhanced, firstExcitation}
@@ -62,12 +62,12 @@ module _ (past : List ℤ) (p : SubframeInputs) (exc : List ℤ) where
   abbrev brought : List ℤ
   brought = enhanced (shl (sharpening (p .pitch)) (pos 1)) (p .pitch) exc (predicted past (p .lag))
 
-  by-gain : (t : Bool) → told (cond t (agc2 exc brought) (undivided exc)) ≡ oneIf (t && gainDivides exc brought)
+  by-gain : (t : Bool) → quotientCount (cond t (agc2 exc brought) (undivided exc)) ≡ oneIf (t && gainDivides exc brought)
   unfolding oneIf
   by-gain true = agc2-divisions exc brought
   by-gain false = refl
 
-  first-divisions : told (firstExcitation (predicted past (p .lag)) (p .pitch) exc) ≡ oneIf (enhancementDivides past p exc)
+  first-divisions : quotientCount (firstExcitation (predicted past (p .lag)) (p .pitch) exc) ≡ oneIf (enhancementDivides past p exc)
   unfolding firstExcitation
   first-divisions = rw (enhances (p .pitch)) (by-gain (ltZ (pos 8192) (p .pitch)))
 

@@ -1,5 +1,6 @@
 -- How many divisions a frame reaches. Document 01: "A divisor is any number that the definition divides by, at a division it reaches".
--- A count by the cases that divide, beside the quotients that the trace tells. The theorems are `every-division` and `frame-divisions` in proofs/Divisions.antt.
+-- A count by the cases that divide, beside the quotients that the trace tells.
+-- The theorems are `every-division` and `frame-divisions` in proofs/Divisions.antt.
 use mathlib.Core.Path.{_≡_}
 use mathlib.Core.Bool.{true}
 use mathlib.Core.List.{List}

@@ -12,17 +12,17 @@ use Rattle.basicop.proofs.Tests.{yes-less, no-less, at-most-yes, at-most-no}
 use Rattle.lpc.specs.declared.Rows.{Rows}
 use Rattle.energy.specs.Gain.{agc}
 use Rattle.energy.specs.Divisions.{gainDivides}
-use Rattle.energy.proofs.Divisions.{told, agc-divisions}
+use Rattle.energy.proofs.Divisions.{quotientCount, agc-divisions}
 use Rattle.postfilter.specs.declared.Postfilter.{Postfilter}
 use Rattle.postfilter.specs.Tilt.{r1, tiltOf, response, tilt}
 use Rattle.postfilter.specs.Postfilter.{PostfilterResult, resynthesised, filterResult, rowAt, part, processNext, processFrom, postfilterResult}
 use Rattle.postfilter.specs.Divisions.{tiltDivides, tiltsDivide, controlsDivide}
 
-tilt-divisions : (a : List ℤ) → told (tilt a) ≡ oneIf (tiltDivides a)
+tilt-divisions : (a : List ℤ) → quotientCount (tilt a) ≡ oneIf (tiltDivides a)
 unfolding tilt tiltOf oneIf
 tilt-divisions a = go (leZ (r1 (response a)) (pos 0)) refl
   where
-    go : (t : Bool) → leZ (r1 (response a)) (pos 0) ≡ t → told (tilt a) ≡ oneIf (tiltDivides a)
+    go : (t : Bool) → leZ (r1 (response a)) (pos 0) ≡ t → quotientCount (tilt a) ≡ oneIf (tiltDivides a)
     go true e = rw (e, no-less (pos 0) (r1 (response a)) (at-most-yes e)) refl
     go false e = rw (e, yes-less (pos 0) (r1 (response a)) (at-most-no (r1 (response a)) (pos 0) e)) refl
 

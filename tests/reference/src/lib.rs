@@ -26,6 +26,7 @@ pub mod indexed {
 pub mod agree;
 pub mod bench;
 pub mod coverage;
+pub mod damage;
 pub mod draw;
 pub mod examples;
 pub mod files;

@@ -1,7 +1,7 @@
 //! `reference COMMAND`: see USAGE.
 
 use reference::{
-    agree, bench, coverage, examples,
+    agree, bench, coverage, damage, examples,
     files::{self, FILES, Field, File},
     program,
     report::Report,
@@ -20,6 +20,8 @@ reference write DIR      writes the recorded answers into DIR
 reference check DIR      makes them again and compares them with the files in DIR
 reference show FILE      prints a recorded file, one record a line
 reference coverage DIR   counts what the files in DIR cover
+reference replay PROGRAM DIR
+                         runs replay on the files of DIR with every word of their answers changed
 reference layout         the tables of the files, in Markdown
 reference agree FRAMES SEED
                          the second decoder against the reference: FRAMES random accepted frames,
@@ -38,6 +40,11 @@ fn main() -> ExitCode {
         ["check", folder] => check(Path::new(folder)),
         ["show", file] => show(Path::new(file)),
         ["coverage", folder] => coverage::run(Path::new(folder)),
+        ["replay", program, folder] => damage::check(
+            Path::new(program),
+            Path::new(folder),
+            Path::new("target/damaged"),
+        ),
         ["layout"] => {
             print!("{}", files::layout());
             true
