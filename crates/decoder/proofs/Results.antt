@@ -1,9 +1,10 @@
--- What a subframe and the core of a frame give: lengths, ranges, divisors. Assumes nothing.
-use Prim.Native.Nat.{ℕ, zero, suc, _*_}
-use mathlib.Core.Path.{_≡_, refl, sym, ap, ap₂, _∙_, subst}
+-- What a subframe and the core of a frame give: lengths, ranges, places, divisors. Assumes nothing.
+use Prim.Native.Nat.{ℕ, zero, suc, _*_, _≤_}
+use mathlib.Core.Path.{_≡_, refl, sym, ap, _∙_, subst}
 use mathlib.Core.Bool.{Bool, true, false, cond}
 use mathlib.Core.List.{List, [], _∷_, map, flatMap}
 use native.Mathlib.Omega.{arith}
+use borrow.Author.Tests.{ltb-true, ltb-false, eq-eqb, ne-eqb}
 use lib.Dec.{ltb}
 use lib.IntN.{ℤ, pos}
 use lib.ListN.{length, drop, getD, length-map}
@@ -24,12 +25,12 @@ use Rattle.energy.proofs.Tests.{either}
 use Rattle.energy.proofs.Divisors.{agc2-divisors}
 use Rattle.energy.proofs.Results.{agc2-length}
 use Rattle.synthesis.specs.Synthesis.{overflowed, overflowedAt}
-use Rattle.synthesis.proofs.Samples.{overflowed-by-at, samples-words, newest-words}
+use Rattle.synthesis.proofs.Samples.{overflowed-by-at, overflowedAt-most, samples-words, newest-words}
 use Rattle.decoder.specs.declared.Core.{Core}
 use Rattle.decoder.specs.Inputs.{SubframeInputs, FrameInputs, UsableSubframe, Usable}
 use Rattle.decoder.specs.Enhance.{enhancedAt, enhanced, firstExcitation}
-use Rattle.decoder.specs.Subframe.{SynthesisInput, SynthesisResult, unretriedResult, retriedResult, synthesisResult}
-use Rattle.decoder.specs.Core.{SubframeResult, CoreResult, excitations, subframeResult, subframeResults, coreAfter, flagsOf, placesOf, samplesOf, quotientsOf, rowList, openedCore, coreResult}
+use Rattle.decoder.specs.Subframe.{SynthesisInput, SynthesisResult, flagOf, unretriedResult, retriedResult, synthesisResult}
+use Rattle.decoder.specs.Core.{SubframeResult, CoreResult, excitations, subframeResult, subframeResults, coreAfter, placesOf, samplesOf, quotientsOf, rowList, openedCore, coreResult}
 use Rattle.decoder.proofs.Retry.{Small, retry}
 
 -- ---- the first excitation
@@ -68,14 +69,29 @@ synthesis-words f h p k e w =
     (record { samples = samples-words (f .row) (quartered (f .feedback)) h e (q .count); past = taking-words (quartered p) (quartered (f .feedback)) (words-quartered p w) q })
     (record { samples = samples-words (f .row) (f .excitation) h e (k .excitation); past = taking-words p (f .feedback) w (k .feedback) })
 
--- the flag, by the place
-pub synthesis-flag : (f : SynthesisInput) (h p : List ℤ) → length (f .excitation) ≡ 40 → synthesisResult f h p .retried ≡ ltb (synthesisResult f h p .place) 40
-unfolding synthesisResult
-synthesis-flag f h p e = go (overflowed 10 (f .row) (f .excitation) h) (overflowed-by-at 10 (f .row) (f .excitation) h ∙ rw e)
+-- ---- the place of its first pass
+pub record Placed (d : SynthesisResult) : Type 0 where
+  pub most : d .place ≤ 40
+  pub flag : d .retried ≡ flagOf (d .place)
+
+below-flag : (n : ℕ) → n ≤ 40 → ltb n 40 ≡ flagOf n
+below-flag n h = go (ltb n 40) refl
   where
-    go : (b : Bool) → b ≡ ltb (overflowedAt 10 (f .row) (f .excitation) h) 40 → cond b (retriedResult f h p) (unretriedResult f h p) .retried ≡ ltb (cond b (retriedResult f h p) (unretriedResult f h p) .place) 40
-    go true k = k
-    go false k = k
+    go : (b : Bool) → ltb n 40 ≡ b → ltb n 40 ≡ flagOf n
+    go true e = let l = ltb-true n 40 e in rw (e, ne-eqb n 40 (λ k. omega (arith, k, l)))
+    go false e = let l = ltb-false n 40 e in rw (e, eq-eqb n 40 (omega (arith, h, l)))
+
+pub synthesis-placed : (f : SynthesisInput) (h p : List ℤ) → length (f .excitation) ≡ 40 → Placed (synthesisResult f h p)
+unfolding synthesisResult
+synthesis-placed f h p e = go (overflowed 10 (f .row) (f .excitation) h) (overflowed-by-at 10 (f .row) (f .excitation) h ∙ rw e (below-flag n most))
+  where
+    n : ℕ
+    n = overflowedAt 10 (f .row) (f .excitation) h
+    most : n ≤ 40
+    most = rw e at (overflowedAt-most 10 (f .row) (f .excitation) h)
+    go : (b : Bool) → b ≡ flagOf n → Placed (cond b (retriedResult f h p) (unretriedResult f h p))
+    go true k = record { most = most; flag = k }
+    go false k = record { most = most; flag = k }
 
 -- ---- a subframe step
 -- past and history as the step needs them
@@ -92,11 +108,11 @@ pub record Next (lsps : List ℤ) (c : Core) : Type 0 where
 pub record SubframeFacts (lsps : List ℤ) (t : SubframeResult) : Type 0 where
   pub forty : Forty (t .input)
   pub samples : Words 40 (t .synthesis .samples)
-  pub flag : t .synthesis .retried ≡ ltb (t .synthesis .place) 40
+  pub placed : Placed (t .synthesis)
   pub divisors : Every (Divides 16384) (t .quotients)
   pub next : Next lsps (t .next)
   -- after a retry every number of the past lies in -8192..=8191
-  pub small : t .synthesis .retried ≡ true → Every Small (t .next .past)
+  pub small : flagOf (t .synthesis .place) ≡ true → Every Small (t .next .past)
 
 module _ (c : Core) (row : List ℤ) (p : SubframeInputs) where
   pub subframe-divisors : Every (Divides 16384) (subframeResult c row p .quotients)
@@ -126,17 +142,18 @@ module _ (c : Core) (row : List ℤ) (p : SubframeInputs) where
       let k = subframe-forty (h .past .count) in
       let m = synthesis-words (t .input) (c .history) (c .past) k (h .history .count) (h .past) in
       let r = retry (t .input) (c .history) (c .past) (h .history .count) in
+      let placed = synthesis-placed (t .input) (c .history) (c .past) (k .excitation) in
       record {
         forty = k;
         samples = m .samples;
-        flag = synthesis-flag (t .input) (c .history) (c .past) (k .excitation);
+        placed = placed;
         divisors = subframe-divisors;
         next = record {
           held = record { past = m .past; history = newest-words (t .synthesis .samples) (m .samples) };
           lsp = refl;
           sharpening = sharpening-range (p .pitch) (u .pitch);
         };
-        small = λ e. every-at Small (t .next .past) (r .retried-small (sym (r .flag) ∙ e) (h .past .fit) (k .feedback .fit));
+        small = λ e. every-at Small (t .next .past) (r .retried-small (sym (r .flag) ∙ placed .flag ∙ e) (h .past .fit) (k .feedback .fit));
       }
 
 -- ---- the subframes of a frame
@@ -160,16 +177,16 @@ record Last (Q : SubframeResult → Type 0) (c : Core) (ts : List SubframeResult
   result : SubframeResult
   holds : Q result
   next : coreAfter c ts ≡ result .next
-  flag : getD (flagsOf ts) n false ≡ result .synthesis .retried
+  place : getD (placesOf ts) n 40 ≡ result .synthesis .place
 
 last : (Q : SubframeResult → Type 0) (c : Core) (ts : List SubframeResult) (n : ℕ) → length ts ≡ suc n → Every Q ts → Last Q c ts n
 last Q c [] n l e = absurd (omega (arith, l))
-last Q c (t ∷ []) zero l e = record { result = t; holds = e .0; next = refl; flag = refl }
+last Q c (t ∷ []) zero l e = record { result = t; holds = e .0; next = refl; place = refl }
 last Q c (t ∷ []) (suc n) l e = absurd (omega (arith, l))
 last Q c (t ∷ u ∷ ts) zero l e = absurd (omega (arith, l))
 last Q c (t ∷ u ∷ ts) (suc n) l e =
     let r = last Q (t .next) (u ∷ ts) n (omega (arith, l)) (e .1) in
-    record { result = r .result; holds = r .holds; next = r .next; flag = r .flag }
+    record { result = r .result; holds = r .holds; next = r .next; place = r .place }
 
 every-flat : {A B : Type 0} (P : B → Type 0) (f : A → List B) (xs : List A) → Every (λ (x : A). Every P (f x)) xs → Every P (flatMap f xs)
 unfolding flatMap
@@ -181,20 +198,20 @@ unfolding flatMap
 joined-words [] e = record { count = refl; fit = λ i. zero-fits }
 joined-words (t ∷ ts) e = subst (λ (n : ℕ). Words n (samplesOf (t ∷ ts))) (omega arith) (words-append (t .synthesis .samples) (samplesOf ts) (e .0) (joined-words ts (e .1)))
 
-flags-by-places : (ts : List SubframeResult) → Every (λ (t : SubframeResult). t .synthesis .retried ≡ ltb (t .synthesis .place) 40) ts → map (λ (place : ℕ). ltb place 40) (placesOf ts) ≡ flagsOf ts
-flags-by-places [] e = refl
-flags-by-places (t ∷ ts) e = ap₂ (λ (b : Bool) (bs : List Bool). b ∷ bs) (sym (e .0)) (flags-by-places ts (e .1))
+every-place : (ts : List SubframeResult) → Every (λ (t : SubframeResult). t .synthesis .place ≤ 40) ts → Every (λ (place : ℕ). place ≤ 40) (placesOf ts)
+every-place [] e = tt
+every-place (t ∷ ts) e = (e .0, every-place ts (e .1))
 
 -- ---- the core of a frame
 pub record CoreFacts (lsps : List ℤ) (d : CoreResult) : Type 0 where
   pub rows : map (λ (t : SubframeResult). t .input .row) (d .subframes) ≡ rowList (d .rows)
   pub four : length (d .subframes) ≡ 4
   pub samples : Words 160 (samplesOf (d .subframes))
-  pub flags : map (λ (place : ℕ). ltb place 40) (placesOf (d .subframes)) ≡ flagsOf (d .subframes)
+  pub places : Every (λ (place : ℕ). place ≤ 40) (placesOf (d .subframes))
   pub divisors : Every (Divides 16384) (quotientsOf (d .subframes))
   pub next : Next lsps (d .next)
   -- after a retried last subframe
-  pub small : getD (flagsOf (d .subframes)) 3 false ≡ true → Every Small (d .next .past)
+  pub small : flagOf (getD (placesOf (d .subframes)) 3 40) ≡ true → Every Small (d .next .past)
 
 pub core-facts : (c : Core) (f : FrameInputs) → Usable f → Held c → CoreFacts (lspsOf (f .lsfs)) (coreResult c f)
 unfolding coreResult
@@ -208,8 +225,8 @@ core-facts c f u h =
       rows = rows;
       four = four;
       samples = rw four at (joined-words ts (every-map (λ t r. r .samples) ts each));
-      flags = flags-by-places ts (every-map (λ t r. r .flag) ts each);
+      places = every-place ts (every-map (λ t r. r .placed .most) ts each);
       divisors = every-flat (Divides 16384) (λ (t : SubframeResult). t .quotients) ts (every-map (λ t r. r .divisors) ts each);
       next = rw (l .next) (l .holds .next);
-      small = λ e. rw (l .next) (l .holds .small (sym (l .flag) ∙ e));
+      small = λ e. rw (l .next) (l .holds .small (ap flagOf (sym (l .place)) ∙ e));
     }

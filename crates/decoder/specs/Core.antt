@@ -1,7 +1,6 @@
 -- The core of a frame: everything up to the synthesis samples (Decoder_amr of TS 26.073, good frame, MR74). It takes and gives the core's part
 -- of the state alone: the postfilter's memory is not in it.
 use Prim.Native.Nat.{ℕ}
-use mathlib.Core.Bool.{Bool}
 use mathlib.Core.List.{List, [], _∷_, map, flatMap}
 use lib.IntN.{ℤ}
 use Rattle.basicop.specs.Ops.{Quotient}
@@ -68,9 +67,6 @@ coreAfter c [] = c
 coreAfter c (t ∷ ts) = coreAfter (t .next) ts
 
 -- of each, and of all together
-abbrev pub flagsOf : List SubframeResult → List Bool
-flagsOf ts = map (λ (t : SubframeResult). t .synthesis .retried) ts
-
 abbrev pub placesOf : List SubframeResult → List ℕ
 placesOf ts = map (λ (t : SubframeResult). t .synthesis .place) ts
 

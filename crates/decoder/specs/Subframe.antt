@@ -1,7 +1,8 @@
 -- The synthesis of a subframe with its retry: Decoder_amr of TS 26.073; document 01, "Synthesis output". By clamped steps.
-use mathlib.Core.Bool.{Bool, true, false, cond}
+use mathlib.Core.Bool.{Bool, true, false, not, cond}
 use mathlib.Core.List.{List}
 use Prim.Native.Nat.{ℕ}
+use lib.Dec.{eqb}
 use lib.IntN.{ℤ}
 use Rattle.basicop.specs.Ops.{quartered}
 use Rattle.synthesis.specs.Synthesis.{samples, overflowed, overflowedAt}
@@ -22,6 +23,10 @@ pub record SynthesisResult : Type 0 where
   pub samples : List ℤ
   pub feedback : List ℤ
   pub past : List ℤ
+
+-- document 02, 1/13: "A flag is then 'not 40'", of the place of a subframe's first pass
+abbrev pub flagOf : ℕ → Bool
+flagOf place = not (eqb place 40)
 
 -- nothing clamped: the samples of the first pass
 abbrev pub unretriedResult : SynthesisInput → List ℤ → List ℤ → SynthesisResult

@@ -3,7 +3,7 @@ use Prim.Native.Nat.{ℕ, _+_, _*_}
 use mathlib.Core.Path.{_≡_, refl, ap, _∙_}
 use mathlib.Core.List.{List, [], _∷_, _++_, map}
 use native.Mathlib.Omega.{arith}
-use lib.Dec.{T, ltb, leb→le}
+use lib.Dec.{T, leb→le}
 use lib.IntN.{ℤ, pos, negsuc, natAbs}
 use lib.ListN.{length, getD}
 use lib.Signed.{_≤ℤ_, nonNeg}
@@ -14,6 +14,7 @@ use Rattle.pitch.specs.declared.PitchLag.{PitchLag}
 use Rattle.pitch.specs.Lag.{absolute, relative, lagOf}
 use Rattle.decoder.specs.declared.Parameters.{Parameters}
 use Rattle.decoder.specs.Inputs.{subframeOf, inputsOf}
+use Rattle.decoder.specs.Subframe.{flagOf}
 use Rattle.mr74.specs.declared.sheet.LagPair.{LagPair}
 use Rattle.mr74.specs.Sheet.{lsfsOf, lagPair, innovationOf, subframeAt, subframesFrom, sheetInputs}
 use Rattle.mr74.specs.Inner.{twoLags}
@@ -28,7 +29,7 @@ pub lags-are : (a b : PitchLag) {i j : ℕ} {n m : ℤ} → pos i ≡ n → pos 
 lags-are a b ei ej ea eb = let k = ea ∙ ap absolute ei in λ t. k t ∷ (eb ∙ (λ s. relative (ej s) (k s .samples))) t ∷ []
 
 -- ---- four flags
-pub four-flags : (ps : List ℕ) → length ps ≡ 4 → ltb (getD ps 0 0) 40 ∷ ltb (getD ps 1 0) 40 ∷ ltb (getD ps 2 0) 40 ∷ ltb (getD ps 3 0) 40 ∷ [] ≡ map (λ (place : ℕ). ltb place 40) ps
+pub four-flags : (ps : List ℕ) → length ps ≡ 4 → flagOf (getD ps 0 0) ∷ flagOf (getD ps 1 0) ∷ flagOf (getD ps 2 0) ∷ flagOf (getD ps 3 0) ∷ [] ≡ map flagOf ps
 four-flags [] e = absurd (omega (arith, e))
 four-flags (p ∷ []) e = absurd (omega (arith, e))
 four-flags (p ∷ q ∷ []) e = absurd (omega (arith, e))

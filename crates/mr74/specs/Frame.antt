@@ -1,13 +1,14 @@
 -- The frame call: the core of the frame (Decoder_amr of TS 26.073), then the postfilter over its synthesis samples (Post_Filter).
-use mathlib.Core.Bool.{Bool, false, cond}
+use mathlib.Core.Bool.{cond}
 use mathlib.Core.List.{List, [], _++_, map}
+use Prim.Native.Nat.{ℕ}
 use lib.IntN.{ℤ, pos}
 use lib.ListN.{length, replicate}
 use Rattle.basicop.specs.Ops.{Quotient}
 use Rattle.pitch.specs.Lag.{Lag}
 use Rattle.lpc.specs.declared.Rows.{Rows}
 use Rattle.decoder.specs.Inputs.{SubframeInputs, FrameInputs}
-use Rattle.decoder.specs.Core.{SubframeResult, CoreResult, coreResult, flagsOf, samplesOf, quotientsOf}
+use Rattle.decoder.specs.Core.{SubframeResult, CoreResult, coreResult, placesOf, samplesOf, quotientsOf}
 use Rattle.postfilter.specs.Postfilter.{PostfilterResult, postfilterResult}
 use Rattle.state.specs.declared.State.{State}
 use Rattle.outcome.specs.declared.Outcome.{Outcome}
@@ -35,10 +36,11 @@ pub record Trace : Type 0 where
   pub rows : Rows
   -- of each subframe
   pub lags : List Lag
-  -- of each subframe: what its synthesis was fed (row, feedback before any quartering, first excitation), what came of it (flag, place, synthesis samples,
-  -- feedback, past), and the core's state after it
+  -- of each subframe: what its synthesis was fed (row, feedback before any quartering, first excitation), what came of it (whether it was retried, place,
+  -- synthesis samples, feedback, past), and the core's state after it
   pub subframes : List SubframeResult
-  pub flags : List Bool
+  -- of each subframe: the first sample, 0 to 39, at which a step of its first pass clamped, 40 where none did
+  pub places : List ℕ
   -- of each subframe
   pub tilts : List ℤ
   -- every quotient that was taken, with its divisor
@@ -56,14 +58,14 @@ acceptedTrace o inputs s =
       rows = c .rows;
       lags = map (λ (p : SubframeInputs). p .lag) (inputs .subframes);
       subframes = c .subframes;
-      flags = flagsOf (c .subframes);
+      places = placesOf (c .subframes);
       tilts = p .tilts;
       quotients = quotientsOf (c .subframes) ++ p .quotients;
       output = p .output .samples;
       next = nextStateOf inputs s;
     }
 
--- rows all zero, flags 0, no subframe, the output as it was, the state as it came
+-- rows all zero, places 40, no subframe, the output as it was, the state as it came
 abbrev pub zeroRows : Rows
 zeroRows = record { a = replicate 11 (pos 0); b = replicate 11 (pos 0); c = replicate 11 (pos 0); d = replicate 11 (pos 0) }
 
@@ -74,7 +76,7 @@ refusedTrace o s out =
       rows = zeroRows;
       lags = [];
       subframes = [];
-      flags = replicate 4 false;
+      places = replicate 4 40;
       tilts = [];
       quotients = [];
       output = out;
@@ -98,7 +100,7 @@ abbrev pub callResult : FrameAnswer → List ℤ → CallResult
 callResult answer lent = record { answer = answer; lent = lent }
 
 abbrev pub resultOf : Trace → CallResult
-resultOf t = callResult (record { outcome = t .outcome; rows = t .rows; flags = t .flags; next = t .next }) (t .output)
+resultOf t = callResult (record { outcome = t .outcome; rows = t .rows; places = t .places; next = t .next }) (t .output)
 
 unfoldable pub frameCall : List ℤ → State → List ℤ → CallResult
 frameCall sheet s out = resultOf (frameTrace sheet s out)

@@ -1,6 +1,5 @@
 -- What inner functions of the frame call ask and give. The contract of the call itself does not use it.
 use mathlib.Core.Path.{_≡_}
-use mathlib.Core.Bool.{false}
 use mathlib.Core.List.{List, [], _∷_}
 use lib.IntN.{ℤ, pos}
 use lib.ListN.{length, replicate}
@@ -9,7 +8,7 @@ use Rattle.lists.specs.Lists.{at}
 use Rattle.pitch.specs.Lag.{Lag, lagOf}
 use Rattle.spectral.specs.Lsp.{Frequencies}
 use Rattle.decoder.specs.Inputs.{FrameInputs}
-use Rattle.decoder.specs.Core.{flagsOf}
+use Rattle.decoder.specs.Core.{placesOf}
 use Rattle.state.specs.declared.State.{State}
 use Rattle.outcome.specs.declared.Outcome.{Outcome}
 use Rattle.mr74.specs.declared.sheet.LagPair.{LagPair}
@@ -36,11 +35,11 @@ unfoldable pub frameOutputOf : FrameInputs → State → FrameOutput
 frameOutputOf inputs s =
     record {
       rows = coreResultOf inputs s .rows;
-      flags = flagsOf (coreResultOf inputs s .subframes);
+      places = placesOf (coreResultOf inputs s .subframes);
       samples = postResultOf inputs s .output .samples;
       next = nextStateOf inputs s;
     }
 
 -- and a refused one
 abbrev pub refusedAnswer : Outcome → State → FrameAnswer
-refusedAnswer o s = record { outcome = o; rows = zeroRows; flags = replicate 4 false; next = s }
+refusedAnswer o s = record { outcome = o; rows = zeroRows; places = replicate 4 40; next = s }

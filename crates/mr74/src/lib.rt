@@ -1,9 +1,8 @@
 // The frame call of MR74.
 ghost use mathlib.Core.Path.{_≡_};
 ghost use mathlib.Core.List.{map};
-ghost use Prim.Native.Nat.{ℕ};
-ghost use lib.Dec.{ltb};
 ghost use Rattle.decoder.specs.Inputs.{inputsOf, Usable};
+ghost use Rattle.decoder.specs.Subframe.{flagOf};
 ghost use Rattle.mr74.specs.Frame.{callResult, frameCall};
 ghost use Rattle.mr74.specs.Sheet.{sheetInputs};
 ghost use Rattle.mr74.specs.Inner.{Ready, frameOutputOf, refusedAnswer};
@@ -28,27 +27,28 @@ pub const SAMPLES: usize = 160;
 pub struct FrameAnswer {
     pub outcome: Outcome,
     pub rows: Rows,
-    pub flags: [bool; 4],
+    // of each subframe the first sample, 0 to 39, at which a step of its first pass clamped, 40 where none did
+    pub places: [usize; 4],
     pub next: State,
 }
 
-// ---- the call
-// A subframe was retried where a step of its first pass clamped.
-fn flags(places: [usize; 4]) -> [bool; 4]
-    ensures { λ r. ⌜ r ≡ map (λ (place : ℕ). ltb place 40) places ⌝ }
+// The retry flags of an answer: a subframe was retried where its place is not 40.
+pub fn flags(places: [usize; 4]) -> [bool; 4]
+    ensures { λ r. ⌜ r ≡ map flagOf places ⌝ }
 {
     [
-        places[0] < 40,
-        places[1] < 40,
-        places[2] < 40,
-        places[3] < 40,
+        places[0] != 40,
+        places[1] != 40,
+        places[2] != 40,
+        places[3] != 40,
     ]
 }
 
+// ---- the call
 // What an accepted call gives.
 struct FrameOutput {
     rows: Rows,
-    flags: [bool; 4],
+    places: [usize; 4],
     samples: [i16; SAMPLES],
     next: State,
 }
@@ -71,7 +71,7 @@ fn decode(state: State, inputs: Inputs) -> FrameOutput
     let memory = filtered.memory;
     FrameOutput {
         rows,
-        flags: flags(places),
+        places,
         samples,
         next: State {
             core: left,
@@ -88,7 +88,7 @@ fn decode_sheet(state: State, sheet: &[i16]) -> FrameOutput
     decode(state, inputs(sheet))
 }
 
-// Rows all zero, flags 0, the state as it came.
+// Rows all zero, places 40, the state as it came.
 fn refused(outcome: Outcome, state: State) -> FrameAnswer
     ensures { λ r. ⌜ r ≡ refusedAnswer outcome state ⌝ }
 {
@@ -100,13 +100,13 @@ fn refused(outcome: Outcome, state: State) -> FrameAnswer
             c: [0; 11],
             d: [0; 11],
         },
-        flags: [false; 4],
+        places: [40; 4],
         next: state,
     }
 }
 
-// Decodes a frame. Accepted: 160 samples in the lent output; rows, retry flags and the next state come back. Refused, with a number and a place:
-// the lent output keeps its samples, rows and flags are 0, and the state comes back as it came.
+// Decodes a frame. Accepted: 160 samples in the lent output; rows, places and the next state come back. Refused, with a number and a place:
+// the lent output keeps its samples, rows are 0, places 40, and the state comes back as it came.
 pub fn frame(sheet: &[i16], state: State, out: &mut [i16]) -> FrameAnswer
     ensures { λ r. ⌜ callResult r (now (out .exit)) ≡ frameCall (now (sheet .entry)) state (now (out .entry)) ⌝ }
 {
@@ -116,12 +116,12 @@ pub fn frame(sheet: &[i16], state: State, out: &mut [i16]) -> FrameAnswer
         let samples = decoded.samples;
         copy(out, &samples);
         let rows = decoded.rows;
-        let flags = decoded.flags;
+        let places = decoded.places;
         let next = decoded.next;
         return FrameAnswer {
             outcome,
             rows,
-            flags,
+            places,
             next,
         };
     }

@@ -61,12 +61,11 @@ newest m ys = drop (length ys - m) ys
 abbrev pub firstSamples : ℕ → ℕ → List ℤ → List ℤ → List ℤ → List ℤ
 firstSamples n m a xs h = samples m a (take n xs) h ++ replicate (length xs - n) (pos 0)
 
--- the first pass: whether and where a step clamped, and the samples before that place
+-- the first pass: where a step first clamped, and the samples before that place
 unfoldable pub previewed : List ℤ → List ℤ → List ℤ → Output
 previewed a xs h =
     record {
       samples = firstSamples (overflowedAt 10 a xs h) 10 a xs h;
-      overflowed = overflowed 10 a xs h;
       place = overflowedAt 10 a xs h;
     }
 

@@ -14,7 +14,6 @@ pub use whole::preview;
 // all forty where none does and the place is 40.
 pub struct Output {
     pub samples: [i16; 40],
-    pub overflowed: bool,
     pub place: usize,
 }
 

@@ -142,9 +142,5 @@ pub fn preview(coefficients: [i16; 11], excitation: [i16; 40], history: [i16; 10
     let buf = p.buf;
     let place = p.place;
     let samples = after_history(buf);
-    Output {
-        samples,
-        overflowed: place < 40,
-        place,
-    }
+    Output { samples, place }
 }

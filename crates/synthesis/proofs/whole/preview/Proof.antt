@@ -1,12 +1,10 @@
--- `synthesis::preview` meets its contract: the samples are those of the first pass after the history, and a place below 40 is an overflow.
+-- `synthesis::preview` meets its contract: the samples are those of the first pass after the history.
 use Prim.Native.Nat.{_-_}
 use borrow.Author.Needs.{needs}
-use mathlib.Core.Path.{_≡_, sym, ap, _∙_}
-use lib.Dec.{ltb}
+use mathlib.Core.Path.{_≡_, ap, _∙_}
 use lib.IntN.{pos}
 use lib.ListN.{length, take, drop, replicate}
-use Rattle.synthesis.specs.Synthesis.{sample, firstSamples, overflowed, previewed}
-use Rattle.synthesis.proofs.Samples.{overflowed-by-at}
+use Rattle.synthesis.specs.Synthesis.{sample, firstSamples, previewed}
 use Rattle.synthesis.proofs.Passes.{without-history}
 use Rattle.synthesis.proofs.whole.preview.Statement.{statement}
 use Rattle.synthesis.proofs.whole.preview.Tie as tie
@@ -21,8 +19,7 @@ returns c =
     let h = c .before .before .before .args .history in
     let l : length x ≡ 40 = search needs in
     let s : c .after-history .result ≡ firstSamples n 10 a x h = c .after-history .ensures ∙ ap (drop 10) (f .ensures .1) ∙ rw l (without-history (sample 10 a) (take n x) h (replicate (40 - n) (pos 0)) (search needs)) in
-    let o : ltb n 40 ≡ overflowed 10 a x h = sym (overflowed-by-at 10 a x h ∙ rw (l, ← f .ensures .0)) in
-    rw (s, o, f .ensures .0)
+    rw (s, f .ensures .0)
 
 pub preview-spec : {M : Type 1} → statement M
 preview-spec = tie.close (tie.spec (λ c κs. search needs) (λ c κs. search needs) returns)
