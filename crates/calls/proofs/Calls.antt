@@ -6,6 +6,7 @@ use lib.IntN.{ℤ}
 use lib.ListN.{length, getD}
 use Rattle.lists.specs.Lists.{Every}
 use Rattle.decoder.specs.Inputs.{FrameInputs, Usable}
+use Rattle.decoder.specs.Subframe.{flagOf}
 use Rattle.decoder.proofs.Retry.{Small}
 use Rattle.state.specs.declared.State.{State}
 use Rattle.outcome.specs.declared.Outcome.{Outcome}
@@ -86,9 +87,9 @@ module _ (s : State) (c : Call) (w : WellFormed s) (e : accepted (traceOf s c) �
   next-accepted = in-range-accepted (nextState s c) (next-facts .passes)
 
   -- after a retried last subframe
-  pub next-small : getD (traceOf s c .flags) 3 false ≡ true → SmallPast (nextState s c)
+  pub next-small : flagOf (getD (traceOf s c .places) 3 40) ≡ true → SmallPast (nextState s c)
   next-small =
-      subst (λ (t : Trace). getD (t .flags) 3 false ≡ true → SmallPast (t .next)) (sym (accepts s c e .trace))
+      subst (λ (t : Trace). flagOf (getD (t .places) 3 40) ≡ true → SmallPast (t .next)) (sym (accepts s c e .trace))
       (λ f. (result .next .well-formed .past .count, result .core .small f))
 
 pub next-well-formed : (s : State) (c : Call) → WellFormed s → WellFormed (nextState s c)

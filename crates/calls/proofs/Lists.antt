@@ -2,12 +2,14 @@
 use mathlib.Core.Path.{_≡_, refl, sym, ap, _∙_, subst}
 use mathlib.Core.Bool.{Bool, true, false, cond, _||_, true≢false}
 use mathlib.Core.List.{List, [], _∷_, _++_}
+use Prim.Native.Nat.{ℕ}
 use lib.ListN.{getD}
+use Rattle.decoder.specs.Subframe.{flagOf}
 use Rattle.state.specs.declared.State.{State}
 use Rattle.outcome.specs.declared.Outcome.the-variants.{Accepted}
 use Rattle.state.specs.State.{WellFormed, stateOutcome}
 use Rattle.mr74.specs.Frame.{Trace}
-use Rattle.calls.specs.Calls.{Call, traceOf, nextState, runCalls, stateAfter, accepted, anyAccepted, latestFlag}
+use Rattle.calls.specs.Calls.{Call, traceOf, nextState, runCalls, stateAfter, accepted, anyAccepted, latestPlace}
 use Rattle.calls.proofs.Calls.{decided, next-refused, next-well-formed, next-accepted, SmallPast, next-small}
 
 -- ---- one list after another
@@ -49,13 +51,13 @@ pub list-accepted : (cs : List Call) (s : State) → WellFormed s → stateOutco
 list-accepted = always (λ (s : State). stateOutcome s ≡ Accepted) next-accepted
 
 -- ---- after the latest accepted call, its last subframe retried
-latest-step : (s : State) (c : Call) (b : Bool) → WellFormed s → (b ≡ true → SmallPast s) → cond (accepted (traceOf s c)) (getD (traceOf s c .flags) 3 false) b ≡ true → SmallPast (nextState s c)
-latest-step s c b w h e =
+latest-step : (s : State) (c : Call) (n : ℕ) → WellFormed s → (flagOf n ≡ true → SmallPast s) → flagOf (cond (accepted (traceOf s c)) (getD (traceOf s c .places) 3 40) n) ≡ true → SmallPast (nextState s c)
+latest-step s c n w h e =
     decided (accepted (traceOf s c))
-    (λ a. next-small s c w a (sym (ap (λ (t : Bool). cond t (getD (traceOf s c .flags) 3 false) b) a) ∙ e))
-    (λ a. subst SmallPast (sym (next-refused s c a)) (h (sym (ap (λ (t : Bool). cond t (getD (traceOf s c .flags) 3 false) b) a) ∙ e)))
+    (λ a. next-small s c w a (sym (ap (λ (t : Bool). flagOf (cond t (getD (traceOf s c .places) 3 40) n)) a) ∙ e))
+    (λ a. subst SmallPast (sym (next-refused s c a)) (h (sym (ap (λ (t : Bool). flagOf (cond t (getD (traceOf s c .places) 3 40) n)) a) ∙ e)))
 
-pub latest : (cs : List Call) (s : State) (b : Bool) → WellFormed s → (b ≡ true → SmallPast s) → latestFlag b (runCalls s cs) ≡ true → SmallPast (stateAfter s cs)
-unfolding stateAfter runCalls latestFlag
-latest [] s b w h e = h e
-latest (c ∷ cs) s b w h e = latest cs (nextState s c) _ (next-well-formed s c w) (latest-step s c b w h) e
+pub latest : (cs : List Call) (s : State) (n : ℕ) → WellFormed s → (flagOf n ≡ true → SmallPast s) → flagOf (latestPlace n (runCalls s cs)) ≡ true → SmallPast (stateAfter s cs)
+unfolding stateAfter runCalls latestPlace
+latest [] s n w h e = h e
+latest (c ∷ cs) s n w h e = latest cs (nextState s c) _ (next-well-formed s c w) (latest-step s c n w h) e

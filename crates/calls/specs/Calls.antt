@@ -1,6 +1,7 @@
 -- The kinds of calls, and lists of them: document 01, "each call given the state that the last one gave back".
 use mathlib.Core.Bool.{Bool, false, cond, _||_}
 use mathlib.Core.List.{List, [], _∷_}
+use Prim.Native.Nat.{ℕ}
 use lib.IntN.{ℤ}
 use lib.ListN.{getD}
 use Rattle.state.specs.declared.State.{State}
@@ -34,7 +35,7 @@ unfoldable pub anyAccepted : List Trace → Bool
 anyAccepted [] = false
 anyAccepted (t ∷ ts) = accepted t || anyAccepted ts
 
--- the flag of the last subframe of the latest accepted call; `before` where there is none
-unfoldable pub latestFlag : Bool → List Trace → Bool
-latestFlag before [] = before
-latestFlag before (t ∷ ts) = latestFlag (cond (accepted t) (getD (t .flags) 3 false) before) ts
+-- the place of the last subframe of the latest accepted call; `before` where there is none
+unfoldable pub latestPlace : ℕ → List Trace → ℕ
+latestPlace before [] = before
+latestPlace before (t ∷ ts) = latestPlace (cond (accepted t) (getD (t .places) 3 40) before) ts

@@ -1,6 +1,6 @@
 -- Demand 3. Assumes nothing.
 use mathlib.Core.Path.{sym, subst}
-use mathlib.Core.Bool.{false, true≢false}
+use mathlib.Core.Bool.{true≢false}
 use mathlib.Core.List.{List, [], _∷_}
 use lib.IntN.{pos}
 use lib.Signed.{leZ-yes}
@@ -26,7 +26,7 @@ demand-3-any s w cs =
     record {
       sharpening = once (λ (t : State). In (pos 0) (pos 13017) (t .core .sharpening .0)) (λ s c w e. let k = next-facts s c w e .passes in (k .from, k .to)) cs s w;
       gain = once (λ (t : State). In (pos 0) (pos 32765) (t .post .gain .«previous_gain»)) (λ s c w e. let l = next-facts s c w e in (l .passes .gain, ≤ℤ-trans (l .gain) (leZ-yes tt))) cs s w;
-      past = latest cs s false w (λ e. absurd (true≢false (sym e)));
+      past = latest cs s 40 w (λ e. absurd (true≢false (sym e)));
       calls = each cs s w;
     }
 

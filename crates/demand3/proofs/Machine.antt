@@ -61,16 +61,19 @@ module _ (c : Core) (row : List ℤ) (p : SubframeInputs) (h : Held c) (u : Usab
   subframe-measured e =
       let k = subframe-facts c row p h u in
       let r = retry (t .input) (c .history) (c .past) (h .history .count) in
+      let f = sym (k .placed .flag) ∙ r .flag in
       record {
         row = e;
         input = (k .forty .feedback .count, k .forty .excitation);
         machine = (h .history .count, h .past .count);
         forty = k .samples .count;
-        flag = r .flag;
-        samples = λ n. r .unretried-samples (sym (r .flag) ∙ n);
-        unretried = λ n. (r .unretried-feedback (sym (r .flag) ∙ n), r .unretried-past (sym (r .flag) ∙ n));
-        quartered = λ y. (r .retried-feedback (sym (r .flag) ∙ y), r .retried-past (sym (r .flag) ∙ y));
-        retried-samples = λ y. r .retried-samples (sym (r .flag) ∙ y) ∙ sym (held-samples (t .input .row) _ (c .history)) ∙ ap (λ (x : List ℤ). heldSamples (t .input .row) x (c .history)) (sym (r .retried-feedback (sym (r .flag) ∙ y)));
+        flag = f;
+        place = r .place;
+        within = k .placed .most;
+        samples = λ n. r .unretried-samples (sym f ∙ n);
+        unretried = λ n. (r .unretried-feedback (sym f ∙ n), r .unretried-past (sym f ∙ n));
+        quartered = λ y. (r .retried-feedback (sym f ∙ y), r .retried-past (sym f ∙ y));
+        retried-samples = λ y. r .retried-samples (sym f ∙ y) ∙ sym (held-samples (t .input .row) _ (c .history)) ∙ ap (λ (x : List ℤ). heldSamples (t .input .row) x (c .history)) (sym (r .retried-feedback (sym f ∙ y)));
       }
 
   subframe-machine : machineAfterSubframe (t .input) (machineOf c) ≡ machineOf (t .next)

@@ -2,19 +2,20 @@
 use mathlib.Core.Path.{_≡_}
 use mathlib.Core.Bool.{true, false}
 use mathlib.Core.List.{List, [], _∷_, map}
+use Prim.Native.Nat.{_≤_}
 use lib.IntN.{ℤ, pos, negsuc}
 use lib.ListN.{length}
 use lib.Signed.{_≤ℤ_}
 use Rattle.lists.specs.Lists.{Every}
 use Rattle.basicop.specs.Ops.{Quotient}
-use Rattle.synthesis.specs.Whole.{wholeSamples, retried}
-use Rattle.decoder.specs.Subframe.{SynthesisInput, SynthesisResult}
+use Rattle.synthesis.specs.Whole.{wholeSamples, retried, retriedAt}
+use Rattle.decoder.specs.Subframe.{SynthesisInput, SynthesisResult, flagOf}
 use Rattle.decoder.specs.Core.{SubframeResult}
 use Rattle.state.specs.declared.State.{State}
 use Rattle.outcome.specs.declared.Outcome.the-variants.{Accepted}
 use Rattle.state.specs.State.{WellFormed, stateOutcome}
 use Rattle.mr74.specs.Frame.{Trace}
-use Rattle.calls.specs.Calls.{Call, traceOf, nextState, runCalls, stateAfter, accepted, anyAccepted, latestFlag}
+use Rattle.calls.specs.Calls.{Call, traceOf, nextState, runCalls, stateAfter, accepted, anyAccepted, latestPlace}
 use Rattle.demand3.specs.Measure.{Machine, heldSamples, quarters, takesIn, machineAfterSubframe, machineAfterSubframes}
 
 -- from .. to
@@ -30,14 +31,18 @@ pub record AsMeasured (f : SynthesisInput) (m : Machine) (d : SynthesisResult) :
   pub forty : length (d .samples) ≡ 40
   -- "A subframe's flag is 1, retried, exactly when document 01's whole-number recurrence, unclamped, on its first excitation leaves 32 signed bits
   -- at some step."
-  pub flag : d .retried ≡ retried 10 (f .row) (f .excitation) (m .history)
+  pub flag : flagOf (d .place) ≡ retried 10 (f .row) (f .excitation) (m .history)
+  -- document 02, 1/13: the place "is the first sample at which the unclamped recurrence leaves 32 bits", 0 to 39, and 40 where it leaves them at none
+  pub place : d .place ≡ retriedAt 10 (f .row) (f .excitation) (m .history)
+  pub within : d .place ≤ 40
   -- "Unretried, its forty synthesis samples are that recurrence's."
-  pub samples : d .retried ≡ false → d .samples ≡ wholeSamples 10 (f .row) (f .excitation) (m .history)
-  pub unretried : d .retried ≡ false → (d .feedback ≡ f .feedback) × (d .past ≡ takesIn (m .past) (f .feedback))
+  pub samples : flagOf (d .place) ≡ false → d .samples ≡ wholeSamples 10 (f .row) (f .excitation) (m .history)
+  pub unretried : flagOf (d .place) ≡ false → (d .feedback ≡ f .feedback) × (d .past ≡ takesIn (m .past) (f .feedback))
   -- "Retried, feedback excitation and past were quartered once, rounding down,"
-  pub quartered : d .retried ≡ true → (d .feedback ≡ quarters (f .feedback)) × (d .past ≡ takesIn (quarters (m .past)) (quarters (f .feedback)))
+  pub quartered : flagOf (d .place) ≡ true
+      → (d .feedback ≡ quarters (f .feedback)) × (d .past ≡ takesIn (quarters (m .past)) (quarters (f .feedback)))
   -- "and the samples are the clamped recurrence's on that feedback."
-  pub retried-samples : d .retried ≡ true → d .samples ≡ heldSamples (f .row) (d .feedback) (m .history)
+  pub retried-samples : flagOf (d .place) ≡ true → d .samples ≡ heldSamples (f .row) (d .feedback) (m .history)
 
 -- one after another, each against what the machine's own subframe before it left
 abbrev pub SubframesAsMeasured : Machine → List SubframeResult → Type 0
@@ -59,9 +64,9 @@ pub record AcceptedCall (t : Trace) (m : Machine) : Type 0 where
   pub tilts : (length (t .tilts) ≡ 4) × Every (In (pos 0) (pos 26214)) (t .tilts)
   -- "and no divisor was zero."
   pub divisors : Every (λ (q : Quotient). ¬ (q .divisor ≡ pos 0)) (t .quotients)
-  -- the answer's four flags and rows are those of the four subframes
+  -- the answer's four places, with them its flags, and its four rows are those of the four subframes
   pub four : length (t .subframes) ≡ 4
-  pub flags : t .flags ≡ map (λ (u : SubframeResult). u .synthesis .retried) (t .subframes)
+  pub places : t .places ≡ map (λ (u : SubframeResult). u .synthesis .place) (t .subframes)
   pub rows : map (λ (u : SubframeResult). u .input .row) (t .subframes) ≡ t .rows .a ∷ t .rows .b ∷ t .rows .c ∷ t .rows .d ∷ []
   -- each subframe is as the machine has it
   pub subframes : SubframesAsMeasured m (t .subframes)
@@ -89,9 +94,9 @@ pub record Demand3 (s : State) (cs : List Call) : Type 0 where
   pub sharpening : anyAccepted (runCalls s cs) ≡ true → In (pos 0) (pos 13017) (stateAfter s cs .core .sharpening .0)
   pub gain : anyAccepted (runCalls s cs) ≡ true → In (pos 0) (pos 32765) (stateAfter s cs .post .gain .«previous_gain»)
   -- "and, if the latest accepted call's last subframe was retried, all 154 past excitations in -8192..=8191."
-  pub past : latestFlag false (runCalls s cs) ≡ true
+  pub past : flagOf (latestPlace 40 (runCalls s cs)) ≡ true
       → (length (stateAfter s cs .core .past) ≡ 154) × Every (In (negsuc 8191) (pos 8191)) (stateAfter s cs .core .past)
-  -- tilts, divisors, flags, samples, feedback and past
+  -- tilts, divisors, places, samples, feedback and past
   pub calls : EachCall s (opening s) cs
 
 -- from any accepted state, for every list of calls, refused ones included, of any sheets and outputs, the empty list too
