@@ -1,24 +1,26 @@
 -- What is lent, part by part. Assumes nothing.
 use mathlib.Core.Path.{_≡_, refl, sym, _∙_}
 use mathlib.Core.Bool.{Bool, true, false, cond}
-use mathlib.Core.List.{List, [], append-nil}
-use Prim.Native.Nat.{ℕ, _+_, _≤_, _<_}
+use mathlib.Core.List.{List, [], _∷_, append-nil}
+use Prim.Native.Nat.{ℕ, zero, suc, _+_, _≤_, _<_}
 use native.Mathlib.Numerals.{add-one}
 use native.Mathlib.Omega.{arith}
 use lib.Dec.{eqb}
 use lib.IntN.{ℤ, pos}
-use lib.ListN.{length, take, set, getD, replicate, length-set, length-replicate, List·getD-map}
+use lib.ListN.{length, take, set, getD, replicate, length-set, length-replicate}
 use lib.Seq.{take-all, take-suc, take-suc-set}
-use mir.Val.{boolByte}
 use borrow.Rule.Slice.PartMut.{putMid}
 use borrow.Author.Tests.{eq-eqb, ne-eqb, eqb-true}
+use Rattle.lists.specs.Lists.{Every}
+use Rattle.decoder.proofs.Results.{Held}
 use Rattle.state.specs.declared.State.{State}
 use Rattle.outcome.specs.Outcome.{isAccepted}
-use Rattle.coding.specs.Bytes.{words, bytesOf}
+use Rattle.coding.specs.Bytes.{words, bytesOf, Bytes}
 use Rattle.mr74.specs.declared.FrameAnswer.{FrameAnswer}
 use Rattle.mr74.specs.Frame.{callResult, frameCall}
 use Rattle.mr74.proofs.Passed.{passed}
-use Rattle.capi.specs.Capi.{sheetCount, sampleCount, sheetLength, outLength, sheetIn, roomOf, roomIn, outAfter, flagBytes}
+use Rattle.mr74.proofs.Places.{frame-places}
+use Rattle.capi.specs.Capi.{sheetCount, sampleCount, sheetLength, outLength, sheetIn, roomOf, roomIn, outAfter}
 use Rattle.capi.proofs.Codes.{frame-outcome}
 
 -- ---- the sheet
@@ -50,7 +52,7 @@ room-all bytes = go (eqb bytes outLength) refl
     go true e h = eqb-true bytes outLength e
     go false e h = absurd (omega (arith, h))
 
--- ---- a byte for each flag: the first i bytes are those that are wanted
+-- ---- a byte for each place: the first i bytes are those that are wanted
 pub record Copied (src out : List ℕ) (i : ℕ) : Type 0 where
   pub room : length out ≡ length src
   pub same : take i out ≡ take i src
@@ -66,12 +68,14 @@ copied-more {src} {out} {i} {v} c e h =
 pub copied-done : {src out : List ℕ} {i : ℕ} → Copied src out i → length src ≤ i → out ≡ src
 copied-done {src} {out} {i} c h = sym (take-all i out (omega (arith, c .room))) ∙ c .same ∙ take-all i src h
 
-pub flag-at : (flags : List Bool) (i : ℕ) → boolByte (getD flags i false) ≡ getD (flagBytes flags) i 0
-flag-at flags i = byte (getD flags i false) ∙ sym (List·getD-map (λ (flag : Bool). cond flag 1 0) flags i false)
-  where
-    byte : (b : Bool) → boolByte b ≡ cond b 1 0
-    byte true = refl
-    byte false = refl
+-- the places of an answer are bytes
+places-bytes : (places : List ℕ) → Every (λ (place : ℕ). place ≤ 40) places → Bytes places
+places-bytes [] e i = omega arith
+places-bytes (p ∷ ps) e zero = let h = e .0 in omega (arith, h)
+places-bytes (p ∷ ps) e (suc i) = places-bytes ps (e .1) i
+
+pub frame-bytes : (sheet : List ℤ) (s : State) (out : List ℤ) → Held (s .core) → Bytes (frameCall sheet s out .answer .places)
+frame-bytes sheet s out h = places-bytes (frameCall sheet s out .answer .places) (frame-places sheet s out h)
 
 -- ---- a frame's output
 module _ (sheet : List ℤ) (s : State) (out : List ℕ) where

@@ -12,29 +12,29 @@ use Rattle.record.specs.declared.Answer.{Answer}
 use Rattle.record.specs.Record.{readCall, writeResult, writeCall}
 use Rattle.mr74.specs.declared.FrameAnswer.{FrameAnswer}
 use Rattle.mr74.specs.Frame.{frameCall}
-use Rattle.capi.specs.Capi.{stateLength, rowsLength, flagsLength, fits, unfit, codeOf, stateIn, stateBytes, sheetIn, roomIn, outAfter, rowBytes, flagBytes, frameReturn, frameBytes, readReturn, readBytes, writeReturn, writeBytes}
+use Rattle.capi.specs.Capi.{stateLength, rowsLength, placesLength, fits, unfit, codeOf, stateIn, stateBytes, sheetIn, roomIn, outAfter, rowBytes, frameReturn, frameBytes, readReturn, readBytes, writeReturn, writeBytes}
 
 both : (s t : Bool) → s && t ≡ true → (s ≡ true) × (t ≡ true)
 both true t e = (refl, e)
 both false t e = (e, cc)
 
-pub lengths : (state rows flags : ℕ) → fits state rows flags ≡ true → (state ≡ stateLength) × ((rows ≡ rowsLength) × (flags ≡ flagsLength))
-lengths state rows flags h =
+pub lengths : (state rows places : ℕ) → fits state rows places ≡ true → (state ≡ stateLength) × ((rows ≡ rowsLength) × (places ≡ placesLength))
+lengths state rows places h =
     let p = both (eqb state stateLength) _ h in
     let q = both (eqb rows rowsLength) _ (p .1) in
-    (eqb-true state stateLength (p .0), (eqb-true rows rowsLength (q .0), eqb-true flags flagsLength (q .1)))
+    (eqb-true state stateLength (p .0), (eqb-true rows rowsLength (q .0), eqb-true places placesLength (q .1)))
 
-module _ (sheet state out rows flags : List ℕ) where
-  pub frame-unfit : fits (length state) (length rows) (length flags) ≡ false → frameReturn unfit state out rows flags ≡ frameBytes sheet state out rows flags
+module _ (sheet state out rows places : List ℕ) where
+  pub frame-unfit : fits (length state) (length rows) (length places) ≡ false → frameReturn unfit state out rows places ≡ frameBytes sheet state out rows places
   unfolding frameBytes
   frame-unfit h = rw h
 
-  pub frame-given : fits (length state) (length rows) (length flags) ≡ true
-      → {s : State} {a : FrameAnswer} {code : ℕ} {out′ state′ rows′ flags′ : List ℕ}
+  pub frame-given : fits (length state) (length rows) (length places) ≡ true
+      → {s : State} {a : FrameAnswer} {code : ℕ} {out′ state′ rows′ places′ : List ℕ}
       → s ≡ stateIn state
       → (a ≡ frameCall (sheetIn sheet) s (roomIn out) .answer) × (out′ ≡ outAfter (frameCall (sheetIn sheet) s (roomIn out)) out)
-      → code ≡ codeOf (a .outcome) → state′ ≡ stateBytes (a .next) → rows′ ≡ rowBytes (a .rows) → flags′ ≡ flagBytes (a .flags)
-      → frameReturn code state′ out′ rows′ flags′ ≡ frameBytes sheet state out rows flags
+      → code ≡ codeOf (a .outcome) → state′ ≡ stateBytes (a .next) → rows′ ≡ rowBytes (a .rows) → places′ ≡ a .places
+      → frameReturn code state′ out′ rows′ places′ ≡ frameBytes sheet state out rows places
   unfolding frameBytes
   frame-given h es (ea, eo) ec et er ef = rw (h, ec, et, er, ef, eo, ea, es)
 

@@ -15,7 +15,7 @@ use Rattle.coding.proofs.Bytes.{bytes-back}
 use Rattle.coding.proofs.Laid.{bytes-length}
 use Rattle.mr74.specs.Checks.{frameOutcome}
 use Rattle.mr74.specs.Frame.{refusedTrace, frameTrace, resultOf, CallResult, frameCall}
-use Rattle.capi.specs.Capi.{stateLength, fits, codeOf, stateIn, stateBytes, sheetIn, roomIn, outAfter, rowBytes, flagBytes, FrameReturn, frameReturn, frameBytes, RefusedUnchanged}
+use Rattle.capi.specs.Capi.{stateLength, fits, codeOf, stateIn, stateBytes, sheetIn, roomIn, outAfter, rowBytes, FrameReturn, frameReturn, frameBytes, RefusedUnchanged}
 use Rattle.capi.proofs.Codes.{frame-outcome}
 use Rattle.capi.proofs.Calls.{lengths}
 
@@ -31,12 +31,12 @@ same-bytes state l b =
     let k : length (words state) ≡ stateCount = omega (arith, e, bytes-length (words state), l) in
     ap bytesOf (numbers-of-state (words state) k) ∙ back
 
-module _ (sheet state out rows flags : List ℕ) (bytes : Bytes state) where
+module _ (sheet state out rows places : List ℕ) (bytes : Bytes state) where
   abbrev Same : FrameReturn → Type 0
   Same left = (left .code ≡ 0 → ⊥) → (left .state ≡ state) × (left .out ≡ out)
 
   abbrev leftBy : CallResult → FrameReturn
-  leftBy c = frameReturn (codeOf (c .answer .outcome)) (stateBytes (c .answer .next)) (outAfter c out) (rowBytes (c .answer .rows)) (flagBytes (c .answer .flags))
+  leftBy c = frameReturn (codeOf (c .answer .outcome)) (stateBytes (c .answer .next)) (outAfter c out) (rowBytes (c .answer .rows)) (c .answer .places)
 
   abbrev o : Outcome
   o = frameOutcome (sheetIn sheet) (stateIn state) (length (roomIn out))
@@ -49,10 +49,10 @@ module _ (sheet state out rows flags : List ℕ) (bytes : Bytes state) where
   called-so l true e = λ n. absurd (n (ap codeOf (frame-outcome (sheetIn sheet) (stateIn state) (roomIn out)) ∙ accepted-code o e))
   called-so l false e = rw (refused e, e) (λ n. (same-bytes state l bytes, refl))
 
-  left-so : (b : Bool) → fits (length state) (length rows) (length flags) ≡ b → Same (frameBytes sheet state out rows flags)
+  left-so : (b : Bool) → fits (length state) (length rows) (length places) ≡ b → Same (frameBytes sheet state out rows places)
   unfolding frameBytes
-  left-so true e = rw e (called-so (lengths (length state) (length rows) (length flags) e .0) (isAccepted o) refl)
+  left-so true e = rw e (called-so (lengths (length state) (length rows) (length places) e .0) (isAccepted o) refl)
   left-so false e = rw e (λ n. (refl, refl))
 
 pub refused-unchanged : RefusedUnchanged
-refused-unchanged sheet state out rows flags bytes = left-so sheet state out rows flags bytes _ refl
+refused-unchanged sheet state out rows places bytes = left-so sheet state out rows places bytes _ refl

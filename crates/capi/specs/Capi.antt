@@ -1,7 +1,7 @@
 -- The frame call, the reader and the writer over bytes. Numbers of 16 bits are two bytes, low byte first. A state is the bytes of a record's body.
 use mathlib.Core.Path.{_≡_}
 use mathlib.Core.Bool.{Bool, cond, _&&_}
-use mathlib.Core.List.{List, [], _∷_, map}
+use mathlib.Core.List.{List, [], _∷_}
 use Prim.Native.Nat.{ℕ, _+_, _*_}
 use lib.Dec.{eqb}
 use lib.IntN.{ℤ, pos}
@@ -17,7 +17,7 @@ use Rattle.coding.specs.Body.{bodyLength}
 use Rattle.record.specs.Record.{readCall, writeCall}
 use Rattle.mr74.specs.Frame.{CallResult, frameCall}
 
--- ---- how long the buffers are, in bytes: two for each number, one for each flag
+-- ---- how long the buffers are, in bytes: two for each number, one for each place
 abbrev pub sheetCount : ℕ
 sheetCount = 182
 
@@ -40,15 +40,15 @@ stateLength = bodyLength
 abbrev pub rowsLength : ℕ
 rowsLength = 2 * (4 * 11)
 
-abbrev pub flagsLength : ℕ
-flagsLength = 4
+abbrev pub placesLength : ℕ
+placesLength = 4
 
--- a lent state, rows and flags have their lengths
+-- a lent state, rows and places have their lengths
 abbrev pub fits : ℕ → ℕ → ℕ → Bool
-fits state rows flags = eqb state stateLength && (eqb rows rowsLength && eqb flags flagsLength)
+fits state rows places = eqb state stateLength && (eqb rows rowsLength && eqb places placesLength)
 
 -- ---- numbers and states
--- returned where a lent state, rows or flags has another length than its own: no number of the paper's. Nothing lent is changed then
+-- returned where a lent state, rows or places has another length than its own: no number of the paper's. Nothing lent is changed then
 abbrev pub unfit : ℕ
 unfit = 255
 
@@ -82,28 +82,24 @@ outAfter c out = cond (isAccepted (c .answer .outcome)) (bytesOf (c .lent)) out
 abbrev pub rowBytes : Rows → List ℕ
 rowBytes r = bytesOf (joined (r .a ∷ r .b ∷ r .c ∷ r .d ∷ []))
 
--- a byte for each flag
-abbrev pub flagBytes : List Bool → List ℕ
-flagBytes flags = map (λ (flag : Bool). cond flag 1 0) flags
-
--- the returned number, and what was lent
+-- the returned number, and what was lent: of the places each is a byte
 pub record FrameReturn : Type 0 where
   pub code : ℕ
   pub state : List ℕ
   pub out : List ℕ
   pub rows : List ℕ
-  pub flags : List ℕ
+  pub places : List ℕ
 
 abbrev pub frameReturn : ℕ → List ℕ → List ℕ → List ℕ → List ℕ → FrameReturn
-frameReturn code state out rows flags = record { code = code; state = state; out = out; rows = rows; flags = flags }
+frameReturn code state out rows places = record { code = code; state = state; out = out; rows = rows; places = places }
 
 unfoldable pub frameBytes : List ℕ → List ℕ → List ℕ → List ℕ → List ℕ → FrameReturn
-frameBytes sheet state out rows flags =
+frameBytes sheet state out rows places =
     let c = frameCall (sheetIn sheet) (stateIn state) (roomIn out) in
     let a = c .answer in
-    cond (fits (length state) (length rows) (length flags))
-    (frameReturn (codeOf (a .outcome)) (stateBytes (a .next)) (outAfter c out) (rowBytes (a .rows)) (flagBytes (a .flags)))
-    (frameReturn unfit state out rows flags)
+    cond (fits (length state) (length rows) (length places))
+    (frameReturn (codeOf (a .outcome)) (stateBytes (a .next)) (outAfter c out) (rowBytes (a .rows)) (a .places))
+    (frameReturn unfit state out rows places)
 
 -- ---- the reader
 -- the returned number, the lent state, and the lent number: the length of the note, which is what the record begins with
@@ -140,5 +136,5 @@ writeBytes state lent =
 -- a frame call that returns another number than 0 leaves the lent state and output as they were
 abbrev pub RefusedUnchanged : Type 0
 RefusedUnchanged =
-    (sheet state out rows flags : List ℕ) → Bytes state → let left = frameBytes sheet state out rows flags in
+    (sheet state out rows places : List ℕ) → Bytes state → let left = frameBytes sheet state out rows places in
     (left .code ≡ 0 → ⊥) → (left .state ≡ state) × (left .out ≡ out)

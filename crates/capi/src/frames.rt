@@ -4,10 +4,10 @@ ghost use Prim.Native.Nat.{_*_, _≤_, _<_};
 ghost use lib.ListN.{length, take};
 ghost use Rattle.outcome.specs.Outcome.{placeOf};
 ghost use Rattle.mr74.specs.Frame.{callResult, frameCall};
-ghost use Rattle.coding.specs.Bytes.{bytesOf};
-ghost use Rattle.capi.specs.Capi.{sheetCount, stateLength, rowsLength, flagsLength, codeOf, sheetIn, roomOf, roomIn, outAfter, rowBytes, flagBytes, stateBytes};
-use super::FLAGS_BYTES;
+ghost use Rattle.coding.specs.Bytes.{bytesOf, Bytes};
+ghost use Rattle.capi.specs.Capi.{sheetCount, stateLength, rowsLength, placesLength, codeOf, sheetIn, roomOf, roomIn, outAfter, rowBytes, stateBytes};
 use super::OUT_BYTES;
+use super::PLACES_BYTES;
 use super::ROW_BYTES;
 use super::ROWS_BYTES;
 use super::SHEET_BYTES;
@@ -86,31 +86,31 @@ fn write_rows(rows: Rows, out: &mut [u8])
     write_row(d, &mut out[THREE_ROWS..ROWS_BYTES]);
 }
 
-// A byte for each flag.
-fn write_flags(flags: [bool; 4], out: &mut [u8])
-    requires { ⌜ length (now out) ≡ flagsLength ⌝ }
-    ensures { λ _. ⌜ now (out .exit) ≡ flagBytes flags ⌝ }
+// A byte for each place.
+fn write_places(places: [usize; 4], out: &mut [u8])
+    requires { ⌜ (length (now out) ≡ placesLength) × Bytes places ⌝ }
+    ensures { λ _. ⌜ now (out .exit) ≡ places ⌝ }
 {
-    for i in 0..FLAGS_BYTES {
-        out[i] = flags[i] as u8;
+    for i in 0..PLACES_BYTES {
+        out[i] = places[i] as u8;
     }
 }
 
 // What an answer leaves in what was lent beside the output.
-pub fn give(answer: FrameAnswer, state: &mut [u8], rows: &mut [u8], flags: &mut [u8]) -> u32
-    requires { ⌜ (length (now state) ≡ stateLength) × ((length (now rows) ≡ rowsLength) × (length (now flags) ≡ flagsLength)) ⌝ }
-    requires { ⌜ placeOf (answer .outcome) < 256 ⌝ }
+pub fn give(answer: FrameAnswer, state: &mut [u8], rows: &mut [u8], places: &mut [u8]) -> u32
+    requires { ⌜ (length (now state) ≡ stateLength) × ((length (now rows) ≡ rowsLength) × (length (now places) ≡ placesLength)) ⌝ }
+    requires { ⌜ (placeOf (answer .outcome) < 256) × Bytes (answer .places) ⌝ }
     ensures { λ r. ⌜ r ≡ codeOf (answer .outcome) ⌝ }
     ensures { λ _. ⌜ now (state .exit) ≡ stateBytes (answer .next) ⌝ }
     ensures { λ _. ⌜ now (rows .exit) ≡ rowBytes (answer .rows) ⌝ }
-    ensures { λ _. ⌜ now (flags .exit) ≡ flagBytes (answer .flags) ⌝ }
+    ensures { λ _. ⌜ now (places .exit) ≡ answer .places ⌝ }
 {
     let next = answer.next;
     coding::write_body(next, state);
     let four = answer.rows;
     write_rows(four, rows);
-    let retried = answer.flags;
-    write_flags(retried, flags);
+    let first = answer.places;
+    write_places(first, places);
     let outcome = answer.outcome;
     code(outcome)
 }

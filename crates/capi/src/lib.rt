@@ -12,7 +12,7 @@ use mr74::SAMPLES;
 use mr74::SHEET;
 use outcome::Outcome;
 
-// How long the buffers are: two bytes for each number, one for each flag.
+// How long the buffers are: two bytes for each number, one for each place.
 const SHEET_BYTES: usize = 2 * SHEET;
 
 const OUT_BYTES: usize = 2 * SAMPLES;
@@ -27,16 +27,16 @@ const THREE_ROWS: usize = 3 * ROW_BYTES;
 
 const ROWS_BYTES: usize = 4 * ROW_BYTES;
 
-const FLAGS_BYTES: usize = 4;
+const PLACES_BYTES: usize = 4;
 
-// What is returned where a lent state, rows or flags has another length.
+// What is returned where a lent state, rows or places has another length.
 const UNFIT: u32 = 255;
 
-// Whether a lent state, rows and flags have their lengths.
-fn fit(state: usize, rows: usize, flags: usize) -> bool
-    ensures { λ r. ⌜ r ≡ fits state rows flags ⌝ }
+// Whether a lent state, rows and places have their lengths.
+fn fit(state: usize, rows: usize, places: usize) -> bool
+    ensures { λ r. ⌜ r ≡ fits state rows places ⌝ }
 {
-    (state == STATE_BYTES) & ((rows == ROWS_BYTES) & (flags == FLAGS_BYTES))
+    (state == STATE_BYTES) & ((rows == ROWS_BYTES) & (places == PLACES_BYTES))
 }
 
 // Number and place in one.
@@ -49,22 +49,22 @@ fn code(outcome: Outcome) -> u32
     number + 256 * place
 }
 
-// The frame call. Accepted: the samples in `out`, the next state in `state`; refused: both stay. Rows and flags are the answer's either way.
-// Returns number + 256 * place, or 255 where state, rows or flags has another length, and nothing is changed.
+// The frame call. Accepted: the samples in `out`, the next state in `state`; refused: both stay. Rows and places are the answer's either way.
+// Returns number + 256 * place, or 255 where state, rows or places has another length, and nothing is changed.
 #[no_mangle]
 pub extern "C" fn mr74_frame(
     sheet: &[u8],
     state: &mut [u8],
     out: &mut [u8],
     rows: &mut [u8],
-    flags: &mut [u8],
+    places: &mut [u8],
 ) -> u32
-    ensures { λ r. ⌜ frameReturn r (now (state .exit)) (now (out .exit)) (now (rows .exit)) (now (flags .exit)) ≡ frameBytes (now (sheet .entry)) (now (state .entry)) (now (out .entry)) (now (rows .entry)) (now (flags .entry)) ⌝ }
+    ensures { λ r. ⌜ frameReturn r (now (state .exit)) (now (out .exit)) (now (rows .exit)) (now (places .exit)) ≡ frameBytes (now (sheet .entry)) (now (state .entry)) (now (out .entry)) (now (rows .entry)) (now (places .entry)) ⌝ }
 {
-    if fit(state.len(), rows.len(), flags.len()) {
+    if fit(state.len(), rows.len(), places.len()) {
         let before = coding::state_in(state);
         let answer = frame_out(sheet, before, out);
-        return give(answer, state, rows, flags);
+        return give(answer, state, rows, places);
     }
     UNFIT
 }

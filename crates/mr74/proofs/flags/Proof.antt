@@ -1,4 +1,4 @@
--- `flags` meets its contract: there are four places, and each is tested as the definition tests it.
+-- `mr74::flags` meets its contract: there are four places, and each is tested as the definition tests it.
 use borrow.Author.Needs.{needs}
 use Rattle.mr74.proofs.Sheets.{four-flags}
 use Rattle.mr74.proofs.flags.Statement.{statement}

@@ -1,4 +1,4 @@
--- `capi::give` meets its contract: state, rows, flags and code are each written as its function says.
+-- `capi::give` meets its contract: state, rows, places and code are each written as its function says.
 use borrow.Author.Needs.{needs}
 use Rattle.capi.proofs.frames.give.Statement.{statement}
 use Rattle.capi.proofs.frames.give.Tie as tie
@@ -8,7 +8,7 @@ returns c =
     let f = c .before .before .before in
     let r = f .before .before .before .before .before in
     let b = r .before .before .before .before .before in
-    (c .code .ensures, (b .write-body .ensures, (r .write-rows .ensures, f .write-flags .ensures)))
+    (c .code .ensures, (b .write-body .ensures, (r .write-rows .ensures, f .write-places .ensures)))
 
 pub give-spec : {M : Type 1} → statement M
 give-spec =
