@@ -1,11 +1,12 @@
 -- A sheet's line, where its frame call is accepted and where it is refused; and its step, of nothing, of a whole sheet and of some of one. Assumes nothing.
-use mathlib.Core.Path.{_≡_, refl, ap, _∙_}
-use mathlib.Core.Bool.{true, false}
-use mathlib.Core.List.{List, []}
+use mathlib.Core.Path.{_≡_, refl}
+use mathlib.Core.Bool.{Bool, true, false}
+use mathlib.Core.List.{List, [], map}
 use Prim.Native.Nat.{ℕ}
 use borrow.Author.Tests.{ne-eqb}
 use lib.IntN.{ℤ}
 use lib.ListN.{length}
+use Rattle.decoder.specs.Subframe.{flagOf}
 use Rattle.state.specs.declared.State.{State}
 use Rattle.outcome.specs.Outcome.{numberOf, placeOf, isAccepted}
 use Rattle.mr74.specs.declared.FrameAnswer.{FrameAnswer}
@@ -16,9 +17,9 @@ use Rattle.bench_output.specs.Output.{answerLine}
 use Rattle.bench_output.specs.Steps.{sheetStep}
 
 module _ (n : ℕ) (a : FrameAnswer) (xs : List ℤ) (line : List ℕ) where
-  pub line-accepted : (peak : ℤ) → isAccepted (a .outcome) ≡ true → peak ≡ peakOf xs → line ≡ frameLine n (a .flags) peak → line ≡ answerLine n (callResult a xs)
+  pub line-accepted : (flags : List Bool) (peak : ℤ) → isAccepted (a .outcome) ≡ true → flags ≡ map flagOf (a .places) → peak ≡ peakOf xs → line ≡ frameLine n flags peak → line ≡ answerLine n (callResult a xs)
   unfolding answerLine
-  line-accepted peak y e l = rw y (l ∙ ap (frameLine n (a .flags)) e)
+  line-accepted flags peak y f e l = rw (y, ← f, ← e) l
 
   pub line-refused : (number place : ℕ) → isAccepted (a .outcome) ≡ false → number ≡ numberOf (a .outcome) → place ≡ placeOf (a .outcome) → line ≡ refusedLine n number place → line ≡ answerLine n (callResult a xs)
   unfolding answerLine

@@ -1,9 +1,10 @@
 -- The bench program's output, whole, of its whole input: document 01, "The bench program's lines".
 use mathlib.Core.Bool.{cond}
-use mathlib.Core.List.{List, [], _∷_, _++_}
+use mathlib.Core.List.{List, [], _∷_, _++_, map}
 use Prim.Native.Nat.{ℕ, suc}
 use lib.Dec.{eqb}
 use lib.ListN.{length, take, drop}
+use Rattle.decoder.specs.Subframe.{flagOf}
 use Rattle.state.specs.declared.State.{State}
 use Rattle.outcome.specs.Outcome.{numberOf, placeOf, isAccepted}
 use Rattle.record.specs.Record.{readCall}
@@ -15,7 +16,7 @@ use Rattle.sheets.specs.Sheets.{recordBytes, sheetBytes, sheetsOf, sheetCall}
 unfoldable pub answerLine : ℕ → CallResult → List ℕ
 answerLine n k =
     let a = k .answer in
-    cond (isAccepted (a .outcome)) (frameLine n (a .flags) (peakOf (k .lent))) (refusedLine n (numberOf (a .outcome)) (placeOf (a .outcome)))
+    cond (isAccepted (a .outcome)) (frameLine n (map flagOf (a .places)) (peakOf (k .lent))) (refusedLine n (numberOf (a .outcome)) (placeOf (a .outcome)))
 
 -- the lines of the sheets from number n on, the first of them with the state s, each after it with the state that the one before gave back, which for
 -- a refused sheet is the state before; a short last sheet is cut

@@ -20,7 +20,8 @@ fn answer_line(line: &mut [u8], number: u64, answer: FrameAnswer, samples: [i16;
 {
     let outcome = answer.outcome;
     if outcome.accepted() {
-        let flags = answer.flags;
+        let places = answer.places;
+        let flags = mr74::flags(places);
         return lines::frame_line(line, number, flags, lines::peak(samples));
     }
     lines::refused_line(line, number, outcome.number(), outcome.place())

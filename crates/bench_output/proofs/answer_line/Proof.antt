@@ -12,10 +12,11 @@ returns : tie.Need-returns
 returns c =
     let p = c .before .before in
     let k = p .before in
-    let t = k .before .before .before in
+    let f = k .before .before in
+    let t = f .before .before in
     let s = t .before .before .before in
     let l = p .frame-line in
-    (line-accepted (s .args .number) (s .args .answer) (s .args .samples) (take (l .result) (l .last .0)) (k .peak .result) (sym (t .before .accepted .ensures) ∙ t .if1 .taken) (k .peak .ensures) (rw (back w32 (k .peak .ok)) at (l .ensures .0)), l .ensures .1)
+    (line-accepted (s .args .number) (s .args .answer) (s .args .samples) (take (l .result) (l .last .0)) (f .flags .result) (k .peak .result) (sym (t .before .accepted .ensures) ∙ t .if1 .taken) (f .flags .ensures) (k .peak .ensures) (rw (back w32 (k .peak .ok)) at (l .ensures .0)), l .ensures .1)
 
 returns-2 : tie.Need-returns-2
 returns-2 c =
@@ -29,6 +30,7 @@ pub answer-line-spec : {M : Type 1} → statement M
 answer-line-spec =
     tie.close
     (tie.spec
+    (λ c κs. search needs)
     (λ c κs. search needs)
     (λ c κs. search needs)
     (λ c κs. search needs)
