@@ -1,7 +1,7 @@
 -- `refused-unchanged` at two frame calls over bytes: the returned numbers are computed, and the calls stay shut where the theorem is applied.
 -- Assumes nothing.
 use mathlib.Core.Path.{_≡_, refl}
-use mathlib.Core.List.{List, []}
+use mathlib.Core.List.{List, [], _∷_}
 use Prim.Native.Nat.{ℕ, suc}
 use native.Mathlib.Omega.{arith}
 use lib.ListN.{replicate}
@@ -18,6 +18,10 @@ use Rattle.applied.proofs.Concrete.{bytes-by}
 unsent-code : unsent .code ≡ 1
 unfolding frameBytes frameCall frameTrace frameOutcome firstMet
 unsent-code = refl
+
+unsent-places : unsent .places ≡ 40 ∷ 40 ∷ 40 ∷ 40 ∷ []
+unfolding frameBytes frameCall frameTrace frameOutcome firstMet
+unsent-places = refl
 
 unmet-code : unmet .code ≡ 16
 unfolding frameBytes frameCall frameTrace frameOutcome firstMet firstOutside words stateOf coreOf postOf
@@ -39,6 +43,7 @@ unchanged-applied =
       unsent-code = unsent-code;
       unsent-state = a .0;
       unsent-out = a .1;
+      unsent-places = unsent-places;
       unmet-code = unmet-code;
       unmet-state = b .0;
       unmet-out = b .1;

@@ -14,7 +14,7 @@ use Rattle.excitation.specs.Excitation.{sharpened, sharpening, feedback}
 use Rattle.energy.specs.Energy.{squares, energy}
 use Rattle.energy.specs.Gain.{energyGain, agc2, controlled, agc}
 use Rattle.energy.specs.Root.{inverseTable, rootScaled, inverseRoot}
-use Rattle.synthesis.specs.Recursion.{outside, recursion, stepNumbers, someOutside, someListOutside}
+use Rattle.synthesis.specs.Recursion.{outside, recursion, stepNumbers, someOutside, someListOutside, firstListOutside}
 use Rattle.synthesis.specs.Synthesis.{acc, accs}
 use Rattle.decoder.specs.Enhance.{enhanced, firstExcitation}
 use Rattle.decoder.specs.Subframe.{synthesisResult}
@@ -29,7 +29,7 @@ use Rattle.state.specs.State.{WellFormed, stateOutcome}
 use Rattle.state.specs.Layout.{coreOf, postOf, stateOf}
 use Rattle.mr74.specs.Checks.{frameOutcome}
 use Rattle.mr74.specs.Frame.{frameTrace}
-use Rattle.calls.specs.Calls.{traceOf, runCalls, anyAccepted, latestFlag}
+use Rattle.calls.specs.Calls.{traceOf, runCalls, anyAccepted, latestPlace}
 use Rattle.applied.specs.Examples.{silent, loud, call, Seen, seen, expected, Example, RefusedTrace}
 use Rattle.applied.proofs.Concrete.{zeros}
 
@@ -48,18 +48,18 @@ silent-well-formed =
     }
 
 seen-is : seen (traceOf silent call) ≡ expected
-unfolding flatMap iter tab clamp asr wrap add sub mult shl L-add L-sub L-mult L-shl L-shr-r L-deposit-h doublings norm-l div-s L-Extract Mpy-32-16 absolute lag-min relative cosine between lspOf raisedAt polynomial rowOf rowsOf inter6 phase start interpolated extended predicted sharpened sharpening feedback squares energy energyGain agc2 inverseTable rootScaled inverseRoot outside recursion stepNumbers someOutside someListOutside acc accs enhanced firstExcitation synthesisResult excitations subframeResult subframeResults coreResult firstMet stateOf coreOf postOf firstOutside frameOutcome frameTrace loud silent numerator denominator weighted residualSum residual tilts.impulse tilts.correlation tilts.tiltOf tilts.tilt preemphasised filterResult postfilterResult agc controlled
+unfolding flatMap iter tab clamp asr wrap add sub mult shl L-add L-sub L-mult L-shl L-shr-r L-deposit-h doublings norm-l div-s L-Extract Mpy-32-16 absolute lag-min relative cosine between lspOf raisedAt polynomial rowOf rowsOf inter6 phase start interpolated extended predicted sharpened sharpening feedback squares energy energyGain agc2 inverseTable rootScaled inverseRoot outside recursion stepNumbers someOutside someListOutside firstListOutside acc accs enhanced firstExcitation synthesisResult excitations subframeResult subframeResults coreResult firstMet stateOf coreOf postOf firstOutside frameOutcome frameTrace loud silent numerator denominator weighted residualSum residual tilts.impulse tilts.correlation tilts.tiltOf tilts.tilt preemphasised filterResult postfilterResult agc controlled
 seen-is = refl
 
 pub example : Example
-unfolding silent stateOf coreOf postOf stateOutcome firstMet frameTrace frameOutcome runCalls anyAccepted latestFlag
+unfolding silent stateOf coreOf postOf stateOutcome firstMet frameTrace frameOutcome runCalls anyAccepted latestPlace
 example =
     record {
       well-formed = silent-well-formed;
       state = refl;
       call = seen-is;
       any = ap (λ (e : Seen). e .accepted || false) seen-is;
-      latest = ap (λ (e : Seen). cond (e .accepted) (getD (e .flags) 3 false) false) seen-is;
+      latest = ap (λ (e : Seen). cond (e .accepted) (getD (e .places) 3 40) 40) seen-is;
     }
 
 pub refused-trace : RefusedTrace

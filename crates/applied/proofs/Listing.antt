@@ -14,7 +14,7 @@ use Rattle.excitation.specs.Excitation.{sharpened, sharpening, feedback}
 use Rattle.energy.specs.Energy.{squares, energy}
 use Rattle.energy.specs.Gain.{energyGain, agc2, controlled, agc}
 use Rattle.energy.specs.Root.{inverseTable, rootScaled, inverseRoot}
-use Rattle.synthesis.specs.Recursion.{outside, recursion, stepNumbers, someOutside, someListOutside}
+use Rattle.synthesis.specs.Recursion.{outside, recursion, stepNumbers, someOutside, someListOutside, firstListOutside}
 use Rattle.synthesis.specs.Synthesis.{acc, accs}
 use Rattle.decoder.specs.Enhance.{enhanced, firstExcitation}
 use Rattle.decoder.specs.Subframe.{synthesisResult}
@@ -39,7 +39,7 @@ use Rattle.bench_output.proofs.Steps.{steps-output}
 use Rattle.applied.specs.Listing.{ascii, input, Listing, StepsApplied}
 
 pub listing : Listing
-unfolding flatMap iter tab clamp asr wrap add sub mult shl L-add L-sub L-mult L-shl L-shr-r L-deposit-h doublings norm-l div-s L-Extract Mpy-32-16 absolute lag-min relative cosine between lspOf raisedAt polynomial rowOf rowsOf inter6 phase start interpolated extended predicted sharpened sharpening feedback squares energy energyGain agc2 inverseTable rootScaled inverseRoot outside recursion stepNumbers someOutside someListOutside acc accs enhanced firstExcitation synthesisResult excitations subframeResult subframeResults coreResult firstMet stateOf coreOf postOf firstOutside frameOutcome frameTrace numerator denominator weighted residualSum residual tilts.impulse tilts.correlation tilts.tiltOf tilts.tilt preemphasised filterResult postfilterResult agc controlled words readCall recordOutcome spelled decimal integer peakOf anyOf markOf frameLine refusedLine cutLine frameCall sheetsOf sheetCall answerLine sheetLines benchOutput ascii input stateOutcome
+unfolding flatMap iter tab clamp asr wrap add sub mult shl L-add L-sub L-mult L-shl L-shr-r L-deposit-h doublings norm-l div-s L-Extract Mpy-32-16 absolute lag-min relative cosine between lspOf raisedAt polynomial rowOf rowsOf inter6 phase start interpolated extended predicted sharpened sharpening feedback squares energy energyGain agc2 inverseTable rootScaled inverseRoot outside recursion stepNumbers someOutside someListOutside firstListOutside acc accs enhanced firstExcitation synthesisResult excitations subframeResult subframeResults coreResult firstMet stateOf coreOf postOf firstOutside frameOutcome frameTrace numerator denominator weighted residualSum residual tilts.impulse tilts.correlation tilts.tiltOf tilts.tilt preemphasised filterResult postfilterResult agc controlled words readCall recordOutcome spelled decimal integer peakOf anyOf markOf frameLine refusedLine cutLine frameCall sheetsOf sheetCall answerLine sheetLines benchOutput ascii input stateOutcome
 listing = refl
 
 -- ---- as many bytes as there are, and no more than so many sheets

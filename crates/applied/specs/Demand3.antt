@@ -3,12 +3,14 @@
 use mathlib.Core.Path.{_≡_}
 use mathlib.Core.Bool.{true, false}
 use mathlib.Core.List.{[], _∷_, map}
+use Prim.Native.Nat.{ℕ, _≤_}
 use lib.IntN.{ℤ, pos, negsuc}
 use lib.ListN.{length}
 use lib.Signed.{_≤ℤ_}
 use Rattle.lists.specs.Lists.{at, Every}
 use Rattle.basicop.specs.Ops.{Quotient}
-use Rattle.synthesis.specs.Whole.{wholeSamples, retried}
+use Rattle.synthesis.specs.Whole.{wholeSamples, retried, retriedAt}
+use Rattle.decoder.specs.Subframe.{flagOf}
 use Rattle.decoder.specs.Core.{SubframeResult}
 use Rattle.state.specs.declared.State.{State}
 use Rattle.mr74.specs.Frame.{Trace}
@@ -56,8 +58,15 @@ pub record Lengths (m : Machine) (u : SubframeResult) : Type 0 where
   pub past : length (m .past) ≡ 154
   pub samples : length (u .synthesis .samples) ≡ 40
 
-pub record Retried (m : Machine) (u : SubframeResult) : Type 0 where
+-- its place is n, and the machine's whole numbers leave 32 bits in sample n first
+pub record Placed (m : Machine) (u : SubframeResult) (n : ℕ) : Type 0 where
+  pub within : u .synthesis .place ≤ 40
+  pub is : u .synthesis .place ≡ n
+  pub whole : retriedAt 10 (u .input .row) (u .input .excitation) (m .history) ≡ n
+
+pub record Retried (m : Machine) (u : SubframeResult) (n : ℕ) : Type 0 where
   pub lengths : Lengths m u
+  pub place : Placed m u n
   pub flag : retried 10 (u .input .row) (u .input .excitation) (m .history) ≡ true
   pub feedback : u .synthesis .feedback ≡ quarters (u .input .feedback)
   pub past : u .synthesis .past ≡ takesIn (quarters (m .past)) (quarters (u .input .feedback))
@@ -65,28 +74,31 @@ pub record Retried (m : Machine) (u : SubframeResult) : Type 0 where
 
 pub record Unretried (m : Machine) (u : SubframeResult) : Type 0 where
   pub lengths : Lengths m u
+  pub place : Placed m u 40
   pub flag : retried 10 (u .input .row) (u .input .excitation) (m .history) ≡ false
   pub feedback : u .synthesis .feedback ≡ u .input .feedback
   pub past : u .synthesis .past ≡ takesIn (m .past) (u .input .feedback)
   pub samples : u .synthesis .samples ≡ wholeSamples 10 (u .input .row) (u .input .excitation) (m .history)
 
--- the first call has four subframes: one retried, two not, one retried
+-- the first call has four subframes: one retried by its sample 8, two not, one retried by its sample 19
 pub record Subframes : Type 0 where
   pub a : SubframeResult
   pub b : SubframeResult
   pub c : SubframeResult
   pub d : SubframeResult
   pub four : first .subframes ≡ a ∷ b ∷ c ∷ d ∷ []
-  pub in-a : Retried opened a
+  pub in-a : Retried opened a 8
   pub in-b : Unretried (afterOne opened a) b
   pub in-c : Unretried (afterOne (afterOne opened a) b) c
-  pub in-d : Retried (afterOne (afterOne (afterOne opened a) b) c) d
+  pub in-d : Retried (afterOne (afterOne (afterOne opened a) b) c) d 19
 
 -- ---- the first call, which is accepted
 pub record FirstCall : Type 0 where
   pub tilts : (length (first .tilts) ≡ 4) × Every (λ (t : ℤ). (pos 0 ≤ℤ t) × (t ≤ℤ pos 26214)) (first .tilts)
   pub divisors : Every (λ (q : Quotient). ¬ (q .divisor ≡ pos 0)) (first .quotients)
-  pub flags : map (λ (u : SubframeResult). u .synthesis .retried) (first .subframes) ≡ true ∷ false ∷ false ∷ true ∷ []
+  pub places : first .places ≡ 8 ∷ 40 ∷ 40 ∷ 19 ∷ []
+  pub subframe-places : map (λ (u : SubframeResult). u .synthesis .place) (first .subframes) ≡ 8 ∷ 40 ∷ 40 ∷ 19 ∷ []
+  pub flags : map flagOf (first .places) ≡ true ∷ false ∷ false ∷ true ∷ []
   pub rows : map (λ (u : SubframeResult). u .input .row) (first .subframes) ≡ first .rows .a ∷ first .rows .b ∷ first .rows .c ∷ first .rows .d ∷ []
   pub subframes : Subframes
   pub history : first .next .core .history ≡ afterCall opened first .history

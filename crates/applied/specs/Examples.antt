@@ -2,7 +2,7 @@
 -- place where the definition can. And a call that is refused.
 -- The theorems are `example` and `refused-trace` in proofs/Examples.antt: each value is computed from the definition.
 use mathlib.Core.Path.{_≡_}
-use mathlib.Core.Bool.{Bool, true, false}
+use mathlib.Core.Bool.{Bool, true}
 use Prim.Native.Nat.{ℕ}
 use mathlib.Core.List.{List, [], _∷_, _++_}
 use lib.IntN.{ℤ, pos}
@@ -15,7 +15,7 @@ use Rattle.outcome.specs.declared.Outcome.the-variants.{Accepted, SheetLength}
 use Rattle.state.specs.State.{WellFormed, stateOutcome}
 use Rattle.state.specs.Layout.{stateOf}
 use Rattle.mr74.specs.Frame.{Trace}
-use Rattle.calls.specs.Calls.{Call, FrameCall, traceOf, runCalls, accepted, anyAccepted, latestFlag}
+use Rattle.calls.specs.Calls.{Call, FrameCall, traceOf, runCalls, accepted, anyAccepted, latestPlace}
 
 -- 197 zeros
 unfoldable pub silent : State
@@ -39,12 +39,12 @@ emptyCall = FrameCall [] []
 abbrev pub calls : List Call
 calls = call ∷ emptyCall ∷ []
 
--- of a call: whether it was accepted, lags, flags, tilts, quotients, and of the state given back sharpening, smoothed gain and
+-- of a call: whether it was accepted, lags, places, tilts, quotients, and of the state given back sharpening, smoothed gain and
 -- the newest excitation
 pub record Seen : Type 0 where
   pub accepted : Bool
   pub lags : List Lag
-  pub flags : List Bool
+  pub places : List ℕ
   pub tilts : List ℤ
   pub quotients : List Quotient
   pub sharpening : ℤ
@@ -56,7 +56,7 @@ seen t =
     record {
       accepted = accepted t;
       lags = t .lags;
-      flags = t .flags;
+      places = t .places;
       tilts = t .tilts;
       quotients = t .quotients;
       sharpening = t .next .core .sharpening .0;
@@ -70,7 +70,7 @@ lag samples thirds = record { samples = pos samples; thirds = thirds }
 abbrev pub quotient : ℕ → ℕ → Quotient
 quotient value divisor = record { value = pos value; divisor = pos divisor }
 
--- The first and the last subframe were retried. Each subframe has a tilt above 0. Twelve quotients, each by its value and its divisor: enhancement in each
+-- The first and the last subframe were retried: a step clamped first in sample 8 of the one and in sample 19 of the other. Each subframe has a tilt above 0. Twelve quotients, each by its value and its divisor: enhancement in each
 -- subframe; then in each the tilt, whose value is the tilt above, and the gain control. Sharpening, and the past after a retry, reach the upper ends of
 -- their ranges
 abbrev pub expected : Seen
@@ -78,7 +78,7 @@ expected =
     record {
       accepted = true;
       lags = lag 21 (pos 0) ∷ lag 30 (minus 1) ∷ lag 22 (minus 1) ∷ lag 19 (pos 1) ∷ [];
-      flags = true ∷ false ∷ false ∷ true ∷ [];
+      places = 8 ∷ 40 ∷ 40 ∷ 19 ∷ [];
       tilts = pos 25275 ∷ pos 935 ∷ pos 1469 ∷ pos 2399 ∷ [];
       quotients =
           quotient 16384 25000 ∷ quotient 18610 27420 ∷ quotient 12079 27802 ∷ quotient 16384 32767
@@ -94,11 +94,11 @@ pub record Example : Type 0 where
   pub well-formed : WellFormed silent
   pub state : stateOutcome silent ≡ Accepted
   pub call : seen (traceOf silent call) ≡ expected
-  -- the list meets both conditions: a call was accepted, and the last subframe of the latest accepted one was retried
+  -- the list meets both conditions: a call was accepted, and the last subframe of the latest accepted one was retried, since its place is not 40
   pub any : anyAccepted (runCalls silent calls) ≡ true
-  pub latest : latestFlag false (runCalls silent calls) ≡ true
+  pub latest : latestPlace 40 (runCalls silent calls) ≡ 19
 
--- ---- the refused call's trace: rows and the four flags are zeros, no other list has an entry, and the state is the one that came
+-- ---- the refused call's trace: rows are zeros and the four places 40, no other list has an entry, and the state is the one that came
 abbrev pub zeroRow : List ℤ
 zeroRow = replicate 11 (pos 0)
 
@@ -109,7 +109,7 @@ emptyTrace s =
       rows = record { a = zeroRow; b = zeroRow; c = zeroRow; d = zeroRow };
       lags = [];
       subframes = [];
-      flags = false ∷ false ∷ false ∷ false ∷ [];
+      places = 40 ∷ 40 ∷ 40 ∷ 40 ∷ [];
       tilts = [];
       quotients = [];
       output = [];
