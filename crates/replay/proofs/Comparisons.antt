@@ -5,6 +5,8 @@ use mathlib.Core.List.{List, [], _∷_, map}
 use Prim.Native.Nat.{ℕ, _+_, _*_, _≤_, _<_}
 use native.Mathlib.Numerals.{add-one}
 use native.Mathlib.Omega.{arith}
+use borrow.Author.Tests.{eqb-true, eqb-false}
+use lib.Dec.{eqb}
 use lib.IntN.{ℤ}
 use lib.ListN.{length, take, getD}
 use lib.Seq.{take-suc, take-all}
@@ -31,6 +33,10 @@ tells-both {r = true} {s = true} t u = tells-true (t .yes refl, u .yes refl)
 tells-both {r = true} {s = false} t u = tells-false (λ p. u .no refl (p .1))
 tells-both {r = false} {s = s} t u = tells-false (λ p. t .no refl (p .0))
 
+-- two numbers
+pub tells-equal : (m n : ℕ) → Tells (m ≡ n) (eqb m n)
+tells-equal m n = record { yes = eqb-true m n; no = eqb-false m n }
+
 -- ---- a loop over two lists that are as long: the first i entries of both are the same
 pub record Alike {A : Type 0} (xs ys : List A) (i : ℕ) : Type 0 where
   pub lengths : length xs ≡ length ys
@@ -56,6 +62,6 @@ pub tells-parts : (b : List ℕ) (ns : List ℕ) (ps : List (List ℤ)) {r : Boo
     → Tells (words b ≡ joined ps) r
 tells-parts b ns ps l k = tells-of (λ e. sym (stretches-joined b ns l) ∙ ap joined e) (λ e. words-cut ns b ∙ ap (cut ns) e ∙ cut-joined ns ps k)
 
-pub tells-four : {w x y z w′ x′ y′ z′ : List ℤ} {r s t u : Bool} → Tells (w ≡ w′) r → Tells (x ≡ x′) s → Tells (y ≡ y′) t → Tells (z ≡ z′) u
+pub tells-four : {A : Type 0} {w x y z w′ x′ y′ z′ : A} {r s t u : Bool} → Tells (w ≡ w′) r → Tells (x ≡ x′) s → Tells (y ≡ y′) t → Tells (z ≡ z′) u
     → Tells ((w ∷ x ∷ y ∷ z ∷ []) ≡ (w′ ∷ x′ ∷ y′ ∷ z′ ∷ [])) (r && s && t && u)
 tells-four a b c d = tells-of (λ p i. p .0 .0 .0 i ∷ p .0 .0 .1 i ∷ p .0 .1 i ∷ p .1 i ∷ []) (λ e. (((cc, cc), cc), cc)) (tells-both (tells-both (tells-both a b) c) d)

@@ -1,6 +1,5 @@
--- Numbers of a record's bytes: one by one, stretch by stretch, flags, and numbers of 32 bits. Assumes nothing.
-use mathlib.Core.Path.{_≡_, ap, sym, _∙_}
-use mathlib.Core.Bool.{Bool, false}
+-- Numbers of a record's bytes: one by one, stretch by stretch, places, and numbers of 32 bits. Assumes nothing.
+use mathlib.Core.Path.{_≡_, refl, ap, sym, _∙_}
 use mathlib.Core.List.{List, [], _∷_, map}
 use Prim.Native.Nat.{ℕ, zero, suc, _+_, _*_, _^_, _<_}
 use native.Mathlib.Omega.{arith}
@@ -16,7 +15,6 @@ use Rattle.lists.proofs.Signed.{back}
 use Rattle.basicop.proofs.Ints.{arithℤ, add-is, mul-is, sfits-by}
 use Rattle.coding.specs.Bytes.{signed16, unsigned, words}
 use Rattle.coding.proofs.Words.{doubled, words-cut, at-words}
-use Rattle.replay.specs.Compare.{flagNumber}
 
 -- a number for each two bytes
 pub words-length : (b : List ℕ) (n : ℕ) → length b ≡ 2 * n → length (words b) ≡ n
@@ -38,15 +36,14 @@ same-bits h k e = sym (back w16 h) ∙ ap (toZ w16) e ∙ back w16 k
 pub stretches-joined : (b : List ℕ) (ns : List ℕ) → length b ≡ 2 * total ns → joined (map words (stretches 0 (doubled ns) b)) ≡ words b
 stretches-joined b ns l = ap joined (words-cut ns b) ∙ joined-cut ns (words b) (words-length b (total ns) l)
 
--- ---- four flags as numbers
-pub four-flags : (flags : List Bool) {w x y z : ℤ} → length flags ≡ 4 → w ≡ flagNumber (getD flags 0 false) → x ≡ flagNumber (getD flags 1 false) → y ≡ flagNumber (getD flags 2 false)
-    → z ≡ flagNumber (getD flags 3 false) → (w ∷ x ∷ y ∷ z ∷ []) ≡ map flagNumber flags
-four-flags [] l a b c d = absurd (omega (arith, l))
-four-flags (p ∷ []) l a b c d = absurd (omega (arith, l))
-four-flags (p ∷ q ∷ []) l a b c d = absurd (omega (arith, l))
-four-flags (p ∷ q ∷ r ∷ []) l a b c d = absurd (omega (arith, l))
-four-flags (p ∷ q ∷ r ∷ s ∷ []) l a b c d = λ i. a i ∷ b i ∷ c i ∷ d i ∷ []
-four-flags (p ∷ q ∷ r ∷ s ∷ t ∷ fs) l a b c d = absurd (omega (arith, l))
+-- ---- four places, one by one
+pub four-places : (ns : List ℕ) → length ns ≡ 4 → getD ns 0 0 ∷ getD ns 1 0 ∷ getD ns 2 0 ∷ getD ns 3 0 ∷ [] ≡ ns
+four-places [] e = absurd (omega (arith, e))
+four-places (a ∷ []) e = absurd (omega (arith, e))
+four-places (a ∷ b ∷ []) e = absurd (omega (arith, e))
+four-places (a ∷ b ∷ c ∷ []) e = absurd (omega (arith, e))
+four-places (a ∷ b ∷ c ∷ d ∷ []) e = refl
+four-places (a ∷ b ∷ c ∷ d ∷ x ∷ ns) e = absurd (omega (arith, e))
 
 -- ---- a number of 32 bits from its high and its low sixteen
 pub long-fits : (h : ℤ) (l : ℕ) → SFits w16 h → l < 65536 → SFits w32 (h *ℤ pos 65536 +ℤ pos l)

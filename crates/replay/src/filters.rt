@@ -47,17 +47,17 @@ pub fn gain_control(b: &[u8]) -> bool {
     forty_same(&b[162..242], samples) && word(&b[242..244]) == r.control.previous_gain
 }
 
-// The first pass; where it overflowed its samples are not compared.
+// The first pass; where a step clamped its samples are not compared.
 fn first_pass(b: &[u8]) -> bool {
     if b.len() != 224 {
         return false;
     }
     let first = synthesis::preview(row(&b[0..22]), forty(&b[42..122]), ten(&b[22..42]));
     let samples = first.samples;
-    if first.overflowed {
-        return bits(&b[202..204]) == 1;
+    if bits(&b[202..204]) as usize != first.place {
+        return false;
     }
-    bits(&b[202..204]) == 0 && forty_same(&b[122..202], samples)
+    first.place != 40 || forty_same(&b[122..202], samples)
 }
 
 // The clamped pass, and the history after it.

@@ -1,43 +1,32 @@
 // The frame call on its records: what the call is given, then the answers of the reference.
 ghost use mathlib.Core.Path.{_≡_};
 ghost use Prim.Native.Nat.{_≤_};
-ghost use mathlib.Core.List.{map};
 ghost use lib.ListN.{length};
-ghost use Rattle.coding.specs.Bytes.{words};
-ghost use Rattle.replay.specs.Compare.{Tells, flagNumber};
+ghost use Rattle.replay.specs.Compare.{Tells, placesIn};
 use super::compare::all_are;
 use super::compare::frame_same;
 use super::compare::rows_same;
-use super::compare::same;
 use super::compare::state_same;
 use super::words::bits;
 use mr74::FrameAnswer;
 
-fn number(flag: bool) -> i16
-    ensures { λ r. ⌜ r ≡ flagNumber flag ⌝ }
-{
-    if flag { 1 } else { 0 }
-}
-
-fn flags_same(b: &[u8], flags: [bool; 4]) -> bool
+fn places_same(b: &[u8], places: [usize; 4]) -> bool
     requires { ⌜ length (now b) ≡ 8 ⌝ }
-    ensures { λ r. ⌜ Tells (words (now (b .entry)) ≡ map flagNumber flags) r ⌝ }
+    ensures { λ r. ⌜ Tells (placesIn (now (b .entry)) ≡ places) r ⌝ }
 {
-    let numbers = [
-        number(flags[0]),
-        number(flags[1]),
-        number(flags[2]),
-        number(flags[3]),
-    ];
-    same(b, &numbers)
+    let one = coding::unsigned(b[0], b[1]) as usize == places[0];
+    let two = coding::unsigned(b[2], b[3]) as usize == places[1];
+    let three = coding::unsigned(b[4], b[5]) as usize == places[2];
+    let four = coding::unsigned(b[6], b[7]) as usize == places[3];
+    one & two & three & four
 }
 
-// Samples, flags, rows and next state of an accepted call.
+// Samples, places, rows and next state of an accepted call.
 fn frame_agrees(b: &[u8], answer: FrameAnswer, samples: [i16; 160]) -> bool
     requires { ⌜ length (now b) ≡ 1568 ⌝ }
 {
     let outcome = answer.outcome;
-    let flags = answer.flags;
+    let places = answer.places;
     let rows = answer.rows;
     let next = answer.next;
     if !outcome.accepted() {
@@ -46,7 +35,7 @@ fn frame_agrees(b: &[u8], answer: FrameAnswer, samples: [i16; 160]) -> bool
     if !frame_same(&b[758..1078], samples) {
         return false;
     }
-    if !flags_same(&b[1078..1086], flags) {
+    if !places_same(&b[1078..1086], places) {
         return false;
     }
     rows_same(&b[1086..1174], rows) && state_same(&b[1174..1568], next)
@@ -64,12 +53,12 @@ pub fn frame(b: &[u8]) -> bool {
     frame_agrees(b, answer, samples)
 }
 
-// A refused call names the recorded number and place, and gives rows of zeros, flags 0 and the state as it came.
+// A refused call names the recorded number and place, and gives rows of zeros, places 40 and the state as it came.
 fn refusal_agrees(b: &[u8], answer: FrameAnswer) -> bool
     requires { ⌜ length (now b) ≡ 770 ⌝ }
 {
     let outcome = answer.outcome;
-    let flags = answer.flags;
+    let places = answer.places;
     let rows = answer.rows;
     let next = answer.next;
     if outcome.number() != bits(&b[766..768]) as u64 {
@@ -78,11 +67,12 @@ fn refusal_agrees(b: &[u8], answer: FrameAnswer) -> bool
     if outcome.place() != bits(&b[768..770]) as usize {
         return false;
     }
-    let zeros = [0u8; 96];
-    if !flags_same(&zeros[0..8], flags) {
+    let forties = [40u8, 0, 40, 0, 40, 0, 40, 0];
+    if !places_same(&forties, places) {
         return false;
     }
-    rows_same(&zeros[8..96], rows) && state_same(&b[372..766], next)
+    let zeros = [0u8; 88];
+    rows_same(&zeros, rows) && state_same(&b[372..766], next)
 }
 
 // The lent output has 0x55 in each byte, and has it still after the call.
