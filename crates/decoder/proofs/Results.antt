@@ -1,7 +1,7 @@
 -- What a subframe and the core of a frame give: lengths, ranges, places, divisors. Assumes nothing.
 use Prim.Native.Nat.{ℕ, zero, suc, _*_, _≤_}
 use mathlib.Core.Path.{_≡_, refl, sym, ap, _∙_, subst}
-use mathlib.Core.Bool.{Bool, true, false, cond}
+use mathlib.Core.Bool.{Bool, true, false, not, cond}
 use mathlib.Core.List.{List, [], _∷_, map, flatMap}
 use native.Mathlib.Omega.{arith}
 use borrow.Author.Tests.{ltb-true, ltb-false, eq-eqb, ne-eqb}
@@ -78,8 +78,8 @@ below-flag : (n : ℕ) → n ≤ 40 → ltb n 40 ≡ flagOf n
 below-flag n h = go (ltb n 40) refl
   where
     go : (b : Bool) → ltb n 40 ≡ b → ltb n 40 ≡ flagOf n
-    go true e = let l = ltb-true n 40 e in rw (e, ne-eqb n 40 (λ k. omega (arith, k, l)))
-    go false e = let l = ltb-false n 40 e in rw (e, eq-eqb n 40 (omega (arith, h, l)))
+    go true e = let l = ltb-true n 40 e in e ∙ ap not (sym (ne-eqb n 40 (λ k. omega (arith, k, l))))
+    go false e = let l = ltb-false n 40 e in e ∙ ap not (sym (eq-eqb n 40 (omega (arith, h, l))))
 
 pub synthesis-placed : (f : SynthesisInput) (h p : List ℤ) → length (f .excitation) ≡ 40 → Placed (synthesisResult f h p)
 unfolding synthesisResult
