@@ -82,7 +82,7 @@ struct Patch {
 
 const SEEN: &str = "visibility";
 
-const PATCHES: [Patch; 19] = [
+const PATCHES: [Patch; 21] = [
     // The sheet in place of the tables.
     Patch {
         file: "mr74/lpc.rs",
@@ -101,6 +101,19 @@ const PATCHES: [Patch; 19] = [
         old: "let [pitch, correction, energy] =",
         new: "return Ok(super::sheet::gains(index)); let [pitch, correction, energy] =",
         why: "the sheet's gains in place of the gain table's",
+    },
+    // The places of the synthesis: two calls that are handed copies, and give nothing back.
+    Patch {
+        file: "mr74/synthesis.rs",
+        old: ">> WORD_SHIFT) as i16;",
+        new: ">> WORD_SHIFT) as i16; super::places::note(sample, overflowed);",
+        why: "after each sample of a pass, whether a step has clamped so far",
+    },
+    Patch {
+        file: "mr74/decoder.rs",
+        old: ".overflowed;",
+        new: ".overflowed; super::places::keep(index);",
+        why: "the place of a subframe's first pass, before its second",
     },
     // The state, set and read from outside.
     Patch {

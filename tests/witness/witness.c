@@ -194,7 +194,7 @@ static int synthesis(const Word16 *r, int *inside)
     memcpy(a, r, 22);
     memcpy(memory, r + 11, 20);
     memcpy(x, r + 21, 80);
-    *inside = !r[101]; /* no step clamps: it clamps only at the end */
+    *inside = r[101] == 40; /* no step clamps: it clamps only at the end */
     Syn_filt(a, x, y, 40, memory, 1);
     return same(y, r + 61, 40) && same(memory, r + 102, 10);
 }

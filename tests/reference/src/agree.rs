@@ -2,7 +2,7 @@
 //! argument of the stages that have few enough.
 
 use crate::{
-    FRAME, STATE, draw, frame,
+    FRAME, NOWHERE, STATE, draw, frame,
     model::{self, Trace},
     mr74::stages,
     program,
@@ -27,7 +27,7 @@ fn frames(report: &mut Report, count: u64, seed: u64) {
         let mut wanted = vec![0; FRAME];
         let answer = frame::frame(&sheet, &state, &mut wanted);
         assert_eq!(answer.refusal, 0, "the drawn sheets are accepted");
-        wanted.extend(answer.flags);
+        wanted.extend(answer.places);
         wanted.extend(answer.rows.as_flattened());
         wanted.extend(answer.state);
         if model::frame(&mut Trace::default(), &sheet, &state) != wanted {
@@ -35,7 +35,11 @@ fn frames(report: &mut Report, count: u64, seed: u64) {
             println!("sheet {sheet:?}\nstate {state:?}");
             return;
         }
-        retried += answer.flags.iter().filter(|flag| **flag == 1).count();
+        retried += answer
+            .places
+            .iter()
+            .filter(|place| **place != NOWHERE)
+            .count();
         state = answer.state;
     }
     let text = format!("{count} frames from seed {seed}, {retried} subframes retried");

@@ -1,6 +1,6 @@
 //! The bench program's lines, from document 01.
 
-use crate::{FRAME, SHEET, frame, record};
+use crate::{FRAME, SHEET, SUBFRAMES, flag, frame, record};
 use std::fmt::Write;
 
 pub fn lines(input: &[u8]) -> String {
@@ -21,7 +21,7 @@ pub fn lines(input: &[u8]) -> String {
             let answer = frame::frame(&sheet, &state, &mut samples);
             state = answer.state;
             if answer.refusal == 0 {
-                shown(&answer.flags, &samples)
+                shown(answer.places.map(flag), &samples)
             } else {
                 format!("refused {} {}", answer.refusal, answer.place)
             }
@@ -31,7 +31,7 @@ pub fn lines(input: &[u8]) -> String {
     text
 }
 
-fn shown(flags: &[i16], samples: &[i16; FRAME]) -> String {
+fn shown(flags: [i16; SUBFRAMES], samples: &[i16; FRAME]) -> String {
     let digits: String = flags.iter().map(|flag| flag.to_string()).collect();
     let peak = *samples.iter().max().expect("a frame has 160 samples");
     let mark = if peak >= 32760 {

@@ -3,6 +3,7 @@
 use crate::{
     FRAME, SHEET, STATE, SUBFRAMES, at,
     draw::{self, Loudness},
+    flag,
     frame::frame,
     part,
     program::{LOUD_SEED, bytes_of, record_of, sheet, single},
@@ -109,7 +110,7 @@ fn shows(
     let mut samples = [0; FRAME];
     let answer = frame(sheet, state, &mut samples);
     let peak = samples.iter().max();
-    answer.flags == flags && peak.is_some_and(|peak| peaks.contains(peak))
+    answer.places.map(flag) == flags && peak.is_some_and(|peak| peaks.contains(peak))
 }
 
 fn drawn(random: &mut Random, state: &[i16; STATE], wanted: &Wanted) -> Vec<i16> {

@@ -1,7 +1,7 @@
 //! The recorded files: what a record holds, how its answers are made, and what the file covers.
 
 use crate::{
-    FRAME, LSFS, MEMORY, PAST, ROW, SHEET, STATE, SUBFRAME, SUBFRAMES, at, draw, frame,
+    FRAME, LSFS, MEMORY, NOWHERE, PAST, ROW, SHEET, STATE, SUBFRAME, SUBFRAMES, at, draw, frame,
     model::{self, Fault, Trace, step},
     mr74::stages,
     part,
@@ -494,7 +494,7 @@ pub static FILES: [File; 17] = [
         ],
         answers: &[
             words("samples", SUBFRAME),
-            words("overflowed", 1),
+            words("place", 1),
             words("history after", LSFS),
         ],
         draw: draw::synthesis,
@@ -505,10 +505,10 @@ pub static FILES: [File; 17] = [
             let preview = stages::preview(&row, &history, &excitation);
             let filter = stages::filter(&row, &history, &excitation);
             assert_eq!(preview.samples, filter.samples);
-            assert_eq!(preview.overflowed, filter.overflowed);
+            assert_eq!(preview.place, filter.place);
             assert_eq!(preview.history, history);
             let mut answer = filter.samples.to_vec();
-            answer.push(i16::from(filter.overflowed));
+            answer.push(preview.place);
             answer.extend(filter.history);
             answer
         },
@@ -537,8 +537,9 @@ pub static FILES: [File; 17] = [
             );
             trace.mark_if(input[0] == 4096, "row begins with 4096");
             trace.mark_if(input[0] != 4096, "row begins otherwise");
+            let place = output.place(trace);
             let mut answer = output.samples.to_vec();
-            answer.push(i16::from(output.overflowed(trace)));
+            answer.push(place);
             answer.extend(&output.samples[SUBFRAME - LSFS..]);
             answer
         },
@@ -559,7 +560,7 @@ pub static FILES: [File; 17] = [
             ])
         },
         published: true,
-        faults: &[Fault::SynthesisTowardZero, Fault::FlagFromLastSteps],
+        faults: &[Fault::SynthesisTowardZero, Fault::OverflowByLastSteps],
     },
     File {
         name: "postfilter.bin",
@@ -657,7 +658,7 @@ pub static FILES: [File; 17] = [
             let answer = frame::frame(sheet, &state, &mut out);
             assert!(answer.refusal != 0 && answer.state == state);
             assert!(out.into_iter().eq(0..input[1]));
-            assert_eq!(answer.flags, [0; SUBFRAMES]);
+            assert_eq!(answer.places, [NOWHERE; SUBFRAMES]);
             assert_eq!(answer.rows, [[0; ROW]; SUBFRAMES]);
             vec![answer.refusal, answer.place]
         },
@@ -797,7 +798,7 @@ pub static FILES: [File; 17] = [
 static FRAME_INPUTS: [Field; 2] = [words("sheet", SHEET), words("state", STATE)];
 static FRAME_ANSWERS: [Field; 4] = [
     words("samples", FRAME),
-    words("flags", SUBFRAMES),
+    words("places", SUBFRAMES),
     words("rows", ROW * SUBFRAMES),
     words("next state", STATE),
 ];
@@ -808,7 +809,7 @@ fn frame_answer(input: &[i16]) -> Vec<i16> {
     let answer = frame::frame(sheet, &part(state, 0), &mut samples);
     assert_eq!(answer.refusal, 0);
     let mut words = samples.to_vec();
-    words.extend(answer.flags);
+    words.extend(answer.places);
     words.extend(answer.rows.as_flattened());
     words.extend(answer.state);
     words
@@ -959,8 +960,8 @@ static FRAME_FAULTS: [Fault; 28] = [
     Fault::EnergyNotRestarted,
     Fault::GainTowardZero,
     Fault::SynthesisTowardZero,
-    Fault::FlagFromLastSteps,
-    Fault::FlagFromSecondPass,
+    Fault::OverflowByLastSteps,
+    Fault::PlaceFromSecondPass,
     Fault::QuarterEnhanced,
     Fault::QuarterTowardZero,
     Fault::PastNotQuartered,

@@ -1,13 +1,15 @@
 //! The frame call: document 01's refusals around the published chain.
 
-use crate::{FRAME, LSFS, ROW, SHEET, STATE, SUBFRAMES, at, mr74::stages};
+use crate::{FRAME, LSFS, NOWHERE, ROW, SHEET, STATE, SUBFRAMES, at, mr74::stages};
 
 #[derive(Debug, Clone, PartialEq, Eq)]
 pub struct Answer {
     /// 0 where the call was accepted.
     pub refusal: i16,
+    /// Of the refusal.
     pub place: i16,
-    pub flags: [i16; SUBFRAMES],
+    /// Of each first pass: the first sample at which a step clamped, 40 where none did.
+    pub places: [i16; SUBFRAMES],
     pub rows: [[i16; ROW]; SUBFRAMES],
     pub state: [i16; STATE],
 }
@@ -62,7 +64,7 @@ pub fn frame(sheet: &[i16], state: &[i16; STATE], out: &mut [i16]) -> Answer {
         return Answer {
             refusal,
             place,
-            flags: [0; SUBFRAMES],
+            places: [NOWHERE; SUBFRAMES],
             rows: [[0; ROW]; SUBFRAMES],
             state: *state,
         };
@@ -73,7 +75,7 @@ pub fn frame(sheet: &[i16], state: &[i16; STATE], out: &mut [i16]) -> Answer {
     Answer {
         refusal: 0,
         place: 0,
-        flags: decoded.flags,
+        places: decoded.places,
         rows: decoded.rows,
         state: decoded.state,
     }

@@ -1,12 +1,13 @@
 //! The published Rust of the MR74 sample path as a reference: its stages one by one, the frame
 //! call built from them, and the recorded answers that they give.
-// Two files of ours stand in both trees of published modules.
+// Three files of ours stand in both trees of published modules.
 #![allow(clippy::duplicate_mod)]
 
-/// The published modules as `build.rs` leaves them, and three of ours among them.
+/// The published modules as `build.rs` leaves them, and four of ours among them.
 #[allow(dead_code, unused, unreachable_code, clippy::all)]
 pub mod mr74 {
     include!(concat!(env!("OUT_DIR"), "/reference/mr74/mod.rs"));
+    pub mod places;
     pub mod sheet;
     pub mod stages;
     pub mod state;
@@ -16,6 +17,8 @@ pub mod mr74 {
 #[allow(dead_code, unused, clippy::all)]
 pub mod indexed {
     include!(concat!(env!("OUT_DIR"), "/indexed/mr74/mod.rs"));
+    #[path = "../mr74/places.rs"]
+    pub mod places;
     #[path = "../mr74/sheet.rs"]
     pub mod sheet;
     pub mod source;
@@ -50,6 +53,14 @@ pub const SHEET: usize = 182;
 pub const STATE: usize = 197;
 /// The postfilter's part of the state: input, output, residual, smoothed gain.
 pub const MEMORY: usize = 22;
+
+/// The place of a pass in which no step clamped.
+pub const NOWHERE: i16 = SUBFRAME as i16;
+
+/// A subframe's flag, from the place of its first pass.
+pub fn flag(place: i16) -> i16 {
+    i16::from(place != NOWHERE)
+}
 
 /// Where the parts of the sheet and of the state begin.
 pub mod at {

@@ -5,7 +5,7 @@
 //! off the reference's answers; everything else is its own.
 
 use crate::{
-    FRAME, LSFS, PAST, ROW, STATE, SUBFRAME, SUBFRAMES, at,
+    FRAME, LSFS, NOWHERE, PAST, ROW, STATE, SUBFRAME, SUBFRAMES, at, flag,
     mr74::stages::{self, Lag},
     part,
 };
@@ -46,8 +46,8 @@ faults! {
     EnergyNotRestarted: "energy not started again",
     GainTowardZero: "scaled samples >> 16 toward zero",
     SynthesisTowardZero: "synthesis >> 16 toward zero",
-    FlagFromLastSteps: "overflow seen in the last two steps only",
-    FlagFromSecondPass: "flag from the second pass",
+    OverflowByLastSteps: "overflow seen in the last two steps only",
+    PlaceFromSecondPass: "place from the second pass",
     QuarterEnhanced: "enhanced excitation quartered",
     QuarterTowardZero: "quartering toward zero",
     PastNotQuartered: "past not quartered",
@@ -463,6 +463,7 @@ pub mod step {
     pub const DIFFERENCE: u8 = 4;
     pub const TIMES_8: u8 = 8;
     pub const ROUNDING: u8 = 16;
+    pub const LAST_TWO: u8 = TIMES_8 | ROUNDING;
 }
 
 pub struct Filtered {
@@ -478,18 +479,18 @@ impl Filtered {
 
     /// A sample was clamped on the way and then came back into range.
     pub fn returned(&self) -> bool {
-        let last = step::TIMES_8 | step::ROUNDING;
         self.steps
             .iter()
-            .any(|&steps| steps != 0 && steps & last == 0)
+            .any(|&steps| steps != 0 && steps & step::LAST_TWO == 0)
     }
 
-    pub fn overflowed(&self, trace: &Trace) -> bool {
-        if trace.has(Fault::FlagFromLastSteps) {
-            self.steps() & (step::TIMES_8 | step::ROUNDING) != 0
-        } else {
-            self.steps() != 0
+    /// The first sample at which a step was clamped, 40 where none was.
+    pub fn place(&self, trace: &Trace) -> i16 {
+        if trace.has(Fault::OverflowByLastSteps) && self.steps() & step::LAST_TWO == 0 {
+            return NOWHERE;
         }
+        let place = self.steps.iter().position(|&steps| steps != 0);
+        place.map_or(NOWHERE, |place| place as i16)
     }
 }
 
@@ -640,7 +641,7 @@ fn enhance(
     match_energy(trace, feedback, &enhanced)
 }
 
-/// An accepted frame: 160 samples, four flags, 44 coefficients and the next state.
+/// An accepted frame: 160 samples, four places, 44 coefficients and the next state.
 pub fn frame(trace: &mut Trace, sheet: &[i16], state: &[i16]) -> Vec<i16> {
     let old = part(state, 0);
     let new: [i16; LSFS] = std::array::from_fn(|index| lsp(trace, sheet[index]));
@@ -650,7 +651,7 @@ pub fn frame(trace: &mut Trace, sheet: &[i16], state: &[i16]) -> Vec<i16> {
     let mut history: [i16; LSFS] = part(state, at::HISTORY);
     let mut previous_lag = 0;
     let mut synthesized = Vec::new();
-    let mut flags = [0; SUBFRAMES];
+    let mut places = [NOWHERE; SUBFRAMES];
     for subframe in 0..SUBFRAMES {
         let index = sheet[at::PITCH + subframe];
         let lag = if subframe.is_multiple_of(2) {
@@ -690,8 +691,8 @@ pub fn frame(trace: &mut Trace, sheet: &[i16], state: &[i16]) -> Vec<i16> {
         let first = enhance(trace, &feedback, &prediction, wide(pitch_gain));
         let mut output = synthesis(trace, &rows[subframe], &history, &first);
         let mut kept = feedback;
-        if output.overflowed(trace) {
-            flags[subframe] = 1;
+        places[subframe] = output.place(trace);
+        if places[subframe] != NOWHERE {
             let steps = output.steps();
             let tap = steps & step::TAP != 0;
             trace.mark_if(tap, "first pass: a tap's product clamped");
@@ -721,8 +722,8 @@ pub fn frame(trace: &mut Trace, sheet: &[i16], state: &[i16]) -> Vec<i16> {
                 history = part(&output.samples, SUBFRAME - LSFS);
             }
             output = synthesis(trace, &rows[subframe], &history, &second);
-            if trace.has(Fault::FlagFromSecondPass) {
-                flags[subframe] = i16::from(output.steps() != 0);
+            if trace.has(Fault::PlaceFromSecondPass) {
+                places[subframe] = output.place(trace);
             }
             let clamped = output.steps() != 0;
             trace.mark_if(clamped, "second pass clamped");
@@ -735,15 +736,15 @@ pub fn frame(trace: &mut Trace, sheet: &[i16], state: &[i16]) -> Vec<i16> {
         past.copy_within(SUBFRAME.., 0);
         past[PAST - SUBFRAME..].copy_from_slice(&kept);
     }
-    let pattern = flags.iter().fold(0, |pattern, flag| 2 * pattern + flag);
-    trace.number("flags", pattern);
+    let pattern = |pattern, &place: &i16| 2 * pattern + flag(place);
+    trace.number("flags", places.iter().fold(0, pattern));
     let (mut answer, memory) = postfilter(trace, &state[at::MEMORY..STATE], &synthesized, &rows);
     let peak = *answer.iter().max().expect("a frame has 160 samples");
     trace.mark_if(peak < 0, "peak below 0");
     trace.mark_if(peak >= 32760, "peak 32760 or more");
     trace.mark_if(answer.contains(&-32768), "sample -32768");
     trace.mark_if(answer.iter().all(|&sample| sample == 0), "silence");
-    answer.extend(flags);
+    answer.extend(places);
     answer.extend(rows.as_flattened());
     answer.extend(new);
     answer.extend(past);

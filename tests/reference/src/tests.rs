@@ -37,9 +37,9 @@ fn answers_come_from_the_reference() {
     }
 }
 
-/// Demand 3's recurrence: 23 whole numbers a sample, none clamped. Nothing where one of them leaves
-/// 32 bits.
-fn whole(row: &[i16; ROW], history: &[i16; LSFS], x: &[i16; SUBFRAME]) -> Option<Vec<i16>> {
+/// Demand 3's recurrence: 23 whole numbers a sample, none clamped. The samples before the first at
+/// which one of them leaves 32 bits, all forty where none does: their number is the place.
+fn whole(row: &[i16; ROW], history: &[i16; LSFS], x: &[i16; SUBFRAME]) -> Vec<i16> {
     let mut y = history.to_vec();
     for n in 0..SUBFRAME {
         let mut steps = vec![2 * i64::from(row[0]) * i64::from(x[n])];
@@ -52,25 +52,23 @@ fn whole(row: &[i16; ROW], history: &[i16; LSFS], x: &[i16; SUBFRAME]) -> Option
         steps.extend([8 * sum, 8 * sum + 32768]);
         assert_eq!(steps.len(), 23);
         if steps.iter().any(|&step| i32::try_from(step).is_err()) {
-            return None;
+            break;
         }
         y.push(((8 * sum + 32768) >> 16) as i16);
     }
-    Some(y[LSFS..].to_vec())
+    y.split_off(LSFS)
 }
 
 #[test]
-fn overflow_follows_the_recurrence() {
+fn places_follow_the_recurrence() {
     let file = files::find("synthesis.bin").expect("the file is listed");
     let bytes = fs::read(vectors(file.name)).expect("the file was written");
     for record in file.records(&bytes).expect("whole records") {
         let excitation = part(&record, ROW + LSFS);
         let samples = whole(&part(&record, 0), &part(&record, ROW), &excitation);
         let answer = &record[file.input_words()..];
-        assert_eq!(answer[SUBFRAME], i16::from(samples.is_none()));
-        if let Some(samples) = samples {
-            assert_eq!(answer[..SUBFRAME], samples);
-        }
+        assert_eq!(usize::from(answer[SUBFRAME] as u16), samples.len());
+        assert_eq!(answer[..samples.len()], samples);
     }
 }
 
@@ -83,7 +81,7 @@ fn refused_calls_change_nothing() {
     let answer = frame(&sheet, &state, &mut out);
     assert_eq!((answer.refusal, answer.place), (4, 3));
     assert_eq!(answer.state, state);
-    assert_eq!(answer.flags, [0; SUBFRAMES]);
+    assert_eq!(answer.places, [40; SUBFRAMES]);
     assert_eq!(answer.rows, [[0; ROW]; SUBFRAMES]);
     assert_eq!(out, [5; FRAME]);
     assert_eq!(frame(&sheet[1..], &state, &mut out[1..]).refusal, 1);
@@ -121,7 +119,7 @@ fn sheets_stand_for_indices() {
         let wanted = source.decode(&sheet, &indices);
         assert_eq!(answer.refusal, 0);
         assert_eq!(out, wanted.samples);
-        assert_eq!(answer.flags, wanted.flags);
+        assert_eq!(answer.places, wanted.places);
         assert_eq!(answer.rows, wanted.rows);
         assert_eq!(answer.state, wanted.state);
         state = answer.state;

@@ -1,7 +1,7 @@
 //! Document 01's "Values to hold" and its listing of the bench program, against the reference.
 
 use crate::{
-    LSFS, ROW, SHEET, SUBFRAME, bench,
+    LSFS, NOWHERE, ROW, SHEET, SUBFRAME, bench,
     mr74::stages::{self, Lag},
     record,
     report::Report,
@@ -84,11 +84,11 @@ fn hold(report: &mut Report) {
 
     let mut row = [0; ROW];
     (row[0], row[1]) = (4096, -4096);
-    for (second, wanted) in [(0, false), (1, true)] {
+    for (second, wanted) in [(0, NOWHERE), (1, 1)] {
         let mut excitation = [0; SUBFRAME];
         (excitation[0], excitation[1]) = (32767, second);
-        let got = stages::preview(&row, &[0; LSFS], &excitation).overflowed;
-        let what = format!("synthesis, row 4096 -4096, excitation 32767 {second}: overflow");
+        let got = stages::preview(&row, &[0; LSFS], &excitation).place;
+        let what = format!("synthesis, row 4096 -4096, excitation 32767 {second}: place");
         same(report, &what, got, wanted);
     }
 }

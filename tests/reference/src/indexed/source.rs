@@ -3,7 +3,7 @@
 //! `ExcitationDecoder` sharpened. The LSFs are the sheet's: the quantiser's tables were not given.
 #![warn(unused, clippy::all)]
 
-use super::{Parameters, WIDTHS, decoder::Decoder, postfilter::Postfilter, sheet, state};
+use super::{Parameters, WIDTHS, decoder::Decoder, places, postfilter::Postfilter, sheet, state};
 use crate::{LSFS, SHEET, STATE, SUBFRAME, at, mr74::stages::Decoded, part, random::Random};
 
 /// Any indices.
@@ -55,7 +55,7 @@ impl Source {
             .process(&mut samples, &frame.coefficients_q12);
         Decoded {
             samples,
-            flags: frame.overflow_retries.map(i16::from),
+            places: places::of_frame(&frame),
             rows: frame.coefficients_q12,
             state: state::numbers(&self.decoder, &state::memory(&self.postfilter)),
         }

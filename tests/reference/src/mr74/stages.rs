@@ -3,7 +3,7 @@
 
 use super::{
     PARAMETER_COUNT, Parameters, adaptive, energy, energy::GainControl, lpc, lpc::LpcDecoder,
-    pitch::Fraction, pitch::PitchLag, sheet, spectral, spectral::Spectrum, state,
+    pitch::Fraction, pitch::PitchLag, places, sheet, spectral, spectral::Spectrum, state,
     synthesis::SynthesisFilter,
 };
 use crate::{FRAME, LSFS, MEMORY, PAST, ROW, SHEET, STATE, SUBFRAME, SUBFRAMES, at, part};
@@ -106,7 +106,8 @@ pub fn gain_control(
 
 pub struct Synthesis {
     pub samples: [i16; SUBFRAME],
-    pub overflowed: bool,
+    /// The first sample at which a step clamped, 40 where none did.
+    pub place: i16,
     pub history: [i16; LSFS],
 }
 
@@ -116,7 +117,7 @@ pub fn preview(row: &[i16; ROW], history: &[i16; LSFS], excitation: &[i16; SUBFR
     let output = filter.preview(row, excitation);
     Synthesis {
         samples: output.samples_q0,
-        overflowed: output.overflowed,
+        place: places::of_pass(&output),
         history: filter.history_q0,
     }
 }
@@ -127,7 +128,7 @@ pub fn filter(row: &[i16; ROW], history: &[i16; LSFS], excitation: &[i16; SUBFRA
     let output = filter.filter(row, excitation);
     Synthesis {
         samples: output.samples_q0,
-        overflowed: output.overflowed,
+        place: places::of_pass(&output),
         history: filter.history_q0,
     }
 }
@@ -147,7 +148,8 @@ pub fn postfilter(
 /// What an accepted call gives.
 pub struct Decoded {
     pub samples: [i16; FRAME],
-    pub flags: [i16; SUBFRAMES],
+    /// Of the first passes.
+    pub places: [i16; SUBFRAMES],
     pub rows: [[i16; ROW]; SUBFRAMES],
     pub state: [i16; STATE],
 }
@@ -175,7 +177,7 @@ pub fn decode(sheet: &[i16; SHEET], state: &[i16; STATE]) -> Decoded {
     );
     Decoded {
         samples,
-        flags: frame.overflow_retries.map(i16::from),
+        places: places::of_frame(&frame),
         rows: frame.coefficients_q12,
         state: state::numbers(&decoder, &memory),
     }
