@@ -4,8 +4,8 @@
 use crate::{
     FRAME, LSFS, MEMORY, PAST, ROW, SHEET, STATE, SUBFRAME, SUBFRAMES, at,
     files::{BYTE_AREA, File, Kind, LAGS, PREVIOUS, SHEET_AREA, from_long},
-    frame,
-    model::Trace,
+    frame::{self, Answer},
+    model::{Fault, Trace},
     mr74::stages,
     part,
     random::Random,
@@ -14,6 +14,11 @@ use crate::{
 use std::collections::BTreeMap;
 
 type Records = Vec<Vec<i16>>;
+
+/// No candidate is kept for these: they came after the records were drawn, which stay as they were.
+/// `Chosen::complete` puts behind them what they lack.
+const LATER_KIND: &str = "place";
+const LATER_FAULTS: [Fault; 2] = [Fault::PlaceByLastSteps, Fault::PlaceOnFeedback];
 
 /// Records of a file, and how often they show each kind and give each fault away.
 struct Chosen<'a> {
@@ -41,24 +46,25 @@ impl<'a> Chosen<'a> {
         for kind in trace.seen {
             *self.shown.entry(kind).or_default() += 1;
         }
-        for fault in 0..self.caught.len() {
+        for (index, &fault) in self.file.faults.iter().enumerate() {
             if self.gives_away(fault, &record) {
-                self.caught[fault] += 1;
+                self.caught[index] += 1;
             }
         }
         self.records.push(record);
     }
 
-    fn gives_away(&self, fault: usize, record: &[i16]) -> bool {
-        let mut trace = Trace::faulty(self.file.faults[fault]);
+    fn gives_away(&self, fault: Fault, record: &[i16]) -> bool {
+        let mut trace = Trace::faulty(fault);
         (self.file.model)(&mut trace, record) != (self.file.answer)(record)
     }
 
     fn is_wanted(&self, (name, number): (&'static str, i16)) -> bool {
-        self.wanted.iter().any(|kind| match kind {
-            Kind::One(wanted) => *wanted == name,
-            Kind::Each(wanted, numbers) => *wanted == name && numbers.contains(&number),
-        })
+        name != LATER_KIND
+            && self.wanted.iter().any(|kind| match kind {
+                Kind::One(wanted) => *wanted == name,
+                Kind::Each(wanted, numbers) => *wanted == name && numbers.contains(&number),
+            })
     }
 
     /// Keeps the record if it shows something wanted that fewer than `enough` records show.
@@ -71,11 +77,28 @@ impl<'a> Chosen<'a> {
             .iter()
             .any(|kind| seldom(kind) && self.is_wanted(*kind));
         let catches = || {
-            (0..self.caught.len())
-                .any(|fault| self.caught[fault] < enough && self.gives_away(fault, &record))
+            let mut faults = self.file.faults.iter().zip(&self.caught);
+            faults.any(|(&fault, &caught)| {
+                let sought = caught < enough && !LATER_FAULTS.contains(&fault);
+                sought && self.gives_away(fault, &record)
+            })
         };
         if shows || catches() {
             self.put(record);
+        }
+    }
+
+    /// Where no record shows it, the first drawn one that does.
+    fn complete(
+        &mut self,
+        mut draw: impl FnMut() -> Vec<i16>,
+        shows: impl Fn(&Self, &[i16]) -> bool,
+    ) {
+        if !self.records.iter().any(|record| shows(self, record)) {
+            let record = (0..100_000)
+                .map(|_| draw())
+                .find(|record| shows(self, record));
+            self.put(record.expect("such a record is drawn"));
         }
     }
 }
@@ -702,12 +725,17 @@ pub fn state(random: &mut Random, limit: i16) -> Vec<i16> {
     state.to_vec()
 }
 
-/// The state after an accepted call.
-fn after(record: &[i16]) -> Vec<i16> {
+/// An accepted call.
+fn called(record: &[i16]) -> Answer {
     let mut out = [0; FRAME];
     let answer = frame::frame(&record[..SHEET], &part(record, SHEET), &mut out);
     assert_eq!(answer.refusal, 0, "drawn frames are accepted");
-    answer.state.to_vec()
+    answer
+}
+
+/// The state after an accepted call.
+fn after(record: &[i16]) -> Vec<i16> {
+    called(record).state.to_vec()
 }
 
 /// Two kinds of retry that random frames do not meet.
@@ -876,9 +904,16 @@ fn frames(file: &File, random: &mut Random, size: usize, enough: usize, keep: bo
         chosen.put([sheet(random, lsf, Loudness::Loud), after(&chained)].concat());
     }
     retried_by_step(&mut chosen, random, |random| lsf(random, false));
-    for _ in 0..4000 {
+    let mut any = || {
         let loudness = random.of(&[Loudness::Speech, Loudness::Loud, Loudness::Any]);
-        chosen.offer(candidate(random, loudness), enough);
+        candidate(random, loudness)
+    };
+    for _ in 0..4000 {
+        chosen.offer(any(), enough);
+    }
+    chosen.complete(&mut any, |_, record| called(record).places.contains(&39));
+    for fault in LATER_FAULTS {
+        chosen.complete(&mut any, |chosen, record| chosen.gives_away(fault, record));
     }
     chosen.records
 }

@@ -538,13 +538,14 @@ pub static FILES: [File; 17] = [
             trace.mark_if(input[0] == 4096, "row begins with 4096");
             trace.mark_if(input[0] != 4096, "row begins otherwise");
             let place = output.place(trace);
+            trace.number("place", place);
             let mut answer = output.samples.to_vec();
             answer.push(place);
             answer.extend(&output.samples[SUBFRAME - LSFS..]);
             answer
         },
         kinds: || {
-            ones(&[
+            let mut kinds = ones(&[
                 "row begins with 4096",
                 "row begins otherwise",
                 "no overflow",
@@ -557,10 +558,18 @@ pub static FILES: [File; 17] = [
                 "clamped and back into range",
                 "only sample 0 clamped",
                 "only sample 39 clamped",
-            ])
+            ]);
+            kinds.push(Kind::Each("place", vec![0, 1, 2, 3, 4, 5, 6, 7, 39, 40]));
+            kinds
         },
         published: true,
-        faults: &[Fault::SynthesisTowardZero, Fault::OverflowByLastSteps],
+        faults: &[
+            Fault::SynthesisTowardZero,
+            Fault::OverflowByLastSteps,
+            Fault::PlaceByLastSteps,
+            Fault::PlaceOfLastClamp,
+            Fault::PlaceOneLate,
+        ],
     },
     File {
         name: "postfilter.bin",
@@ -607,6 +616,7 @@ pub static FILES: [File; 17] = [
         model: frame_model,
         kinds: || {
             let mut kinds = frame_kinds();
+            kinds.push(Kind::Each("place", KEPT_PLACES.to_vec()));
             kinds.push(Kind::One("LSF gaps kept"));
             kinds
         },
@@ -623,6 +633,7 @@ pub static FILES: [File; 17] = [
         model: frame_model,
         kinds: || {
             let mut kinds = frame_kinds();
+            kinds.push(Kind::Each("place", BROKEN_PLACES.to_vec()));
             kinds.extend(ones(&[
                 "LSF gaps broken",
                 "LSFs out of order",
@@ -940,7 +951,15 @@ fn frame_kinds() -> Vec<Kind> {
     kinds
 }
 
-static FRAME_FAULTS: [Fault; 28] = [
+/// The places that the frames show: both ends, none, and what was met between.
+const KEPT_PLACES: [i16; 25] = [
+    0, 1, 2, 3, 4, 5, 6, 8, 9, 10, 12, 14, 15, 17, 18, 21, 23, 28, 31, 32, 34, 37, 38, 39, 40,
+];
+const BROKEN_PLACES: [i16; 21] = [
+    0, 1, 2, 3, 4, 5, 10, 12, 14, 15, 18, 19, 20, 24, 28, 30, 31, 33, 38, 39, 40,
+];
+
+static FRAME_FAULTS: [Fault; 32] = [
     Fault::LspTowardZero,
     Fault::BlendTowardZero,
     Fault::CoefficientTowardZero,
@@ -961,7 +980,11 @@ static FRAME_FAULTS: [Fault; 28] = [
     Fault::GainTowardZero,
     Fault::SynthesisTowardZero,
     Fault::OverflowByLastSteps,
+    Fault::PlaceByLastSteps,
+    Fault::PlaceOfLastClamp,
+    Fault::PlaceOneLate,
     Fault::PlaceFromSecondPass,
+    Fault::PlaceOnFeedback,
     Fault::QuarterEnhanced,
     Fault::QuarterTowardZero,
     Fault::PastNotQuartered,

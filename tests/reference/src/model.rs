@@ -47,7 +47,11 @@ faults! {
     GainTowardZero: "scaled samples >> 16 toward zero",
     SynthesisTowardZero: "synthesis >> 16 toward zero",
     OverflowByLastSteps: "overflow seen in the last two steps only",
+    PlaceByLastSteps: "place seen in the last two steps only",
+    PlaceOfLastClamp: "place of the last clamp",
+    PlaceOneLate: "place one late",
     PlaceFromSecondPass: "place from the second pass",
+    PlaceOnFeedback: "place from a pass on the feedback",
     QuarterEnhanced: "enhanced excitation quartered",
     QuarterTowardZero: "quartering toward zero",
     PastNotQuartered: "past not quartered",
@@ -486,11 +490,17 @@ impl Filtered {
 
     /// The first sample at which a step was clamped, 40 where none was.
     pub fn place(&self, trace: &Trace) -> i16 {
-        if trace.has(Fault::OverflowByLastSteps) && self.steps() & step::LAST_TWO == 0 {
-            return NOWHERE;
-        }
-        let place = self.steps.iter().position(|&steps| steps != 0);
-        place.map_or(NOWHERE, |place| place as i16)
+        let any = |steps: &u8| *steps != 0;
+        let last_two = |steps: &u8| steps & step::LAST_TWO != 0;
+        let mut samples = self.steps.iter();
+        let place = match trace.fault {
+            Some(Fault::OverflowByLastSteps) if !last_two(&self.steps()) => None,
+            Some(Fault::PlaceByLastSteps) => samples.position(last_two),
+            Some(Fault::PlaceOfLastClamp) => samples.rposition(any),
+            _ => samples.position(any),
+        };
+        let late = i16::from(trace.has(Fault::PlaceOneLate));
+        place.map_or(NOWHERE, |place| place as i16 + late)
     }
 }
 
@@ -691,8 +701,14 @@ pub fn frame(trace: &mut Trace, sheet: &[i16], state: &[i16]) -> Vec<i16> {
         let first = enhance(trace, &feedback, &prediction, wide(pitch_gain));
         let mut output = synthesis(trace, &rows[subframe], &history, &first);
         let mut kept = feedback;
-        places[subframe] = output.place(trace);
-        if places[subframe] != NOWHERE {
+        let place = output.place(trace);
+        trace.number("place", place);
+        places[subframe] = if trace.has(Fault::PlaceOnFeedback) {
+            synthesis(trace, &rows[subframe], &history, &feedback).place(trace)
+        } else {
+            place
+        };
+        if place != NOWHERE {
             let steps = output.steps();
             let tap = steps & step::TAP != 0;
             trace.mark_if(tap, "first pass: a tap's product clamped");
