@@ -3,11 +3,12 @@ use crate::{
     files::{self, FILES},
     frame::frame,
     indexed::source::{self, Source},
+    mr74::stages,
     part,
     random::Random,
     record, values,
 };
-use std::{fs, path::PathBuf};
+use std::{collections::BTreeSet, fs, path::PathBuf};
 
 fn vectors(name: &str) -> PathBuf {
     [env!("CARGO_MANIFEST_DIR"), "..", "vectors", name]
@@ -59,6 +60,27 @@ fn whole(row: &[i16; ROW], history: &[i16; LSFS], x: &[i16; SUBFRAME]) -> Vec<i1
     y.split_off(LSFS)
 }
 
+/// A row, a history and an excitation. Half of them are silent up to a drawn sample, so that every
+/// place is met.
+fn pass(random: &mut Random) -> ([i16; ROW], [i16; LSFS], [i16; SUBFRAME]) {
+    let mut row = match random.range(0, 2) {
+        0 => stages::convert(&draw::kept(random).map(stages::lsp)),
+        1 => std::array::from_fn(|_| random.word(-9000, 9000)),
+        _ => std::array::from_fn(|_| random.of(&[0, 0, 0, 0, -32768, -32767, 32767])),
+    };
+    if random.once_in(2) {
+        row[0] = 4096;
+    }
+    let limit = draw::level(random);
+    let mut history = std::array::from_fn(|_| random.word(-limit, limit));
+    let mut excitation = std::array::from_fn(|_| random.word(-limit, limit));
+    if random.once_in(2) {
+        history = [0; LSFS];
+        excitation[..random.range(1, 39) as usize].fill(0);
+    }
+    (row, history, excitation)
+}
+
 #[test]
 fn places_follow_the_recurrence() {
     let file = files::find("synthesis.bin").expect("the file is listed");
@@ -70,6 +92,17 @@ fn places_follow_the_recurrence() {
         assert_eq!(usize::from(answer[SUBFRAME] as u16), samples.len());
         assert_eq!(answer[..samples.len()], samples);
     }
+    let mut random = Random::new(75);
+    let mut met = BTreeSet::new();
+    for _ in 0..20_000 {
+        let (row, history, excitation) = pass(&mut random);
+        let samples = whole(&row, &history, &excitation);
+        let preview = stages::preview(&row, &history, &excitation);
+        assert_eq!(usize::from(preview.place as u16), samples.len());
+        assert_eq!(preview.samples[..samples.len()], samples);
+        met.insert(preview.place);
+    }
+    assert!(met.into_iter().eq(0..=40));
 }
 
 #[test]
