@@ -16,12 +16,17 @@ static void expect(const char *what, int good)
     printf("%s %s\n", good ? "ok" : "FAILED", what);
 }
 
-static int all_zero(const uint8_t *bytes, size_t count)
+static int all_are(uint8_t byte, const uint8_t *bytes, size_t count)
 {
     for (size_t i = 0; i < count; i++)
-        if (bytes[i] != 0)
+        if (bytes[i] != byte)
             return 0;
     return 1;
+}
+
+static int all_zero(const uint8_t *bytes, size_t count)
+{
+    return all_are(0, bytes, count);
 }
 
 int main(void)
@@ -29,7 +34,7 @@ int main(void)
     static const uint8_t trailer[8] = {0x4D, 0x37, 1, 0, 0x8A, 1, 0xC5, 0};
     uint8_t record[3 + MR74_RECORD_BYTES] = {'a', 'b', 'c'};
     uint8_t state[MR74_STATE_BYTES], sheet[MR74_SHEET_BYTES] = {0};
-    uint8_t out[MR74_OUT_BYTES], rows[MR74_ROWS_BYTES], flags[MR74_FLAGS_BYTES];
+    uint8_t out[MR74_OUT_BYTES], rows[MR74_ROWS_BYTES], places[MR74_PLACES_BYTES];
     uint8_t again[MR74_RECORD_BYTES];
     size_t note = 0;
     uint32_t code;
@@ -39,21 +44,23 @@ int main(void)
     expect("an all-zero record behind a note of 3 bytes is read", code == 0 && note == 3 && all_zero(state, sizeof state));
 
     memset(out, 0x5A, sizeof out);
-    memset(flags, 0x5A, sizeof flags);
-    code = mr74_frame(sheet, sizeof sheet, state, sizeof state, out, sizeof out, rows, sizeof rows, flags, sizeof flags);
-    expect("a sheet of zeros is accepted: silence, and no subframe retried", code == 0 && all_zero(out, sizeof out) && all_zero(flags, sizeof flags));
+    memset(places, 0x5A, sizeof places);
+    code = mr74_frame(sheet, sizeof sheet, state, sizeof state, out, sizeof out, rows, sizeof rows, places, sizeof places);
+    expect("a sheet of zeros is accepted: silence, and no subframe retried", code == 0 && all_zero(out, sizeof out) && all_are(40, places, sizeof places));
     expect("every row begins with 4096", rows[0] == 0 && rows[1] == 16 && rows[66] == 0 && rows[67] == 16);
 
     sheet[18] = 0x01; /* the last LSF: 16385 */
     sheet[19] = 0x40;
     out[0] = 0x5A;
-    code = mr74_frame(sheet, sizeof sheet, state, sizeof state, out, sizeof out, rows, sizeof rows, flags, sizeof flags);
+    memset(places, 0x5A, sizeof places);
+    code = mr74_frame(sheet, sizeof sheet, state, sizeof state, out, sizeof out, rows, sizeof rows, places, sizeof places);
     expect("an LSF of 16385 is refused by number 2 at place 9", MR74_NUMBER(code) == 2 && MR74_PLACE(code) == 9);
     expect("a refused call leaves the output, and gives rows of zeros", out[0] == 0x5A && all_zero(rows, sizeof rows));
+    expect("a refused call gives the place 40 four times", all_are(40, places, sizeof places));
 
-    code = mr74_frame(sheet, sizeof sheet - 1, state, sizeof state, out, sizeof out, rows, sizeof rows, flags, sizeof flags);
+    code = mr74_frame(sheet, sizeof sheet - 1, state, sizeof state, out, sizeof out, rows, sizeof rows, places, sizeof places);
     expect("a sheet of 363 bytes is refused by number 1", code == 1);
-    code = mr74_frame(sheet, sizeof sheet, state, sizeof state - 1, out, sizeof out, rows, sizeof rows, flags, sizeof flags);
+    code = mr74_frame(sheet, sizeof sheet, state, sizeof state - 1, out, sizeof out, rows, sizeof rows, places, sizeof places);
     expect("a state of 393 bytes does not fit", code == MR74_UNFIT);
 
     code = mr74_write(state, sizeof state, again, sizeof again);
