@@ -83,12 +83,12 @@ fn main() -> ExitCode {
         return ExitCode::SUCCESS;
     }
     let mut counted = Lent::new(&[0; STATE], 0);
-    let mut flags = 0;
+    let mut subframes = 0;
     for sheet in &sheets.bytes {
         counted.ours(sheet);
-        flags += counted.flags.iter().filter(|flag| **flag == 1).count();
+        subframes += counted.retried();
     }
-    println!("{flags} of {} subframes retried", 4 * frames);
+    println!("{subframes} of {} subframes retried", 4 * frames);
     let (mut ours, mut theirs) = (f64::MAX, f64::MAX);
     for _ in 0..7 {
         let start = Instant::now();

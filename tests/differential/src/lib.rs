@@ -1,13 +1,13 @@
 //! The calls of `crates/capi/c/mr74.h`, and the reference's answers to the same bytes.
 
-use reference::{FRAME, ROW, SHEET, STATE, SUBFRAMES, frame, record};
+use reference::{FRAME, NOWHERE, ROW, SHEET, STATE, SUBFRAMES, frame, record};
 
 pub const SHEET_BYTES: usize = 2 * SHEET;
 pub const STATE_BYTES: usize = 2 * STATE;
 pub const OUT_BYTES: usize = 2 * FRAME;
 pub const ROWS_BYTES: usize = 2 * ROW * SUBFRAMES;
-pub const FLAGS_BYTES: usize = SUBFRAMES;
-/// Returned where state, rows or flags has another length.
+pub const PLACES_BYTES: usize = SUBFRAMES;
+/// Returned where state, rows or places has another length.
 pub const UNFIT: u32 = 255;
 
 mod ffi {
@@ -21,8 +21,8 @@ mod ffi {
             out_bytes: usize,
             rows: *mut u8,
             rows_bytes: usize,
-            flags: *mut u8,
-            flags_bytes: usize,
+            places: *mut u8,
+            places_bytes: usize,
         ) -> u32;
         pub fn mr74_read(
             record: *const u8,
@@ -47,7 +47,7 @@ pub struct Lent {
     pub state: Vec<u8>,
     pub out: Vec<u8>,
     pub rows: Vec<u8>,
-    pub flags: Vec<u8>,
+    pub places: Vec<u8>,
 }
 
 impl Lent {
@@ -58,7 +58,7 @@ impl Lent {
             state: bytes(state),
             out: vec![mark; OUT_BYTES],
             rows: vec![mark; ROWS_BYTES],
-            flags: vec![mark; FLAGS_BYTES],
+            places: vec![mark; PLACES_BYTES],
         }
     }
 
@@ -75,16 +75,22 @@ impl Lent {
                 self.out.len(),
                 self.rows.as_mut_ptr(),
                 self.rows.len(),
-                self.flags.as_mut_ptr(),
-                self.flags.len(),
+                self.places.as_mut_ptr(),
+                self.places.len(),
             )
         };
+    }
+
+    /// Where the call was accepted, how many subframes were retried.
+    pub fn retried(&self) -> usize {
+        let places = self.places.iter().map(|&place| i16::from(place));
+        places.filter(|&place| place != NOWHERE).count()
     }
 
     /// The reference's answer to the same bytes.
     #[inline(never)]
     pub fn reference(&mut self, sheet: &[u8]) {
-        let fits = self.rows.len() == ROWS_BYTES && self.flags.len() == FLAGS_BYTES;
+        let fits = self.rows.len() == ROWS_BYTES && self.places.len() == PLACES_BYTES;
         let (Ok(state), true) = (words(&self.state).try_into(), fits) else {
             self.code = UNFIT;
             return;
@@ -108,8 +114,8 @@ impl Lent {
         self.code = answer.refusal as u32 + 256 * answer.place as u32;
         put(&mut self.state, &answer.state);
         put(&mut self.rows, answer.rows.as_flattened());
-        for (byte, flag) in self.flags.iter_mut().zip(answer.flags) {
-            *byte = flag as u8;
+        for (byte, place) in self.places.iter_mut().zip(answer.places) {
+            *byte = place as u8;
         }
         if answer.refusal == 0 {
             put(&mut self.out, &samples);

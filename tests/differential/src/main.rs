@@ -3,12 +3,13 @@
 //! Every byte that a call leaves is compared.
 
 use differential::{
-    FLAGS_BYTES, Lent, OUT_BYTES, ROWS_BYTES, SHEET_BYTES, STATE_BYTES, bytes, read,
-    reference_read, reference_write, write,
+    Lent, OUT_BYTES, PLACES_BYTES, ROWS_BYTES, SHEET_BYTES, STATE_BYTES, bytes, read,
+    reference_read, reference_write, words, write,
 };
 use reference::{
     LSFS, SHEET, STATE, at,
     draw::{self, Loudness},
+    examples,
     indexed::source::{self, Source},
     mr74::stages::Decoded,
     part,
@@ -106,7 +107,7 @@ fn damage(random: &mut Random, sheet: &mut [i16]) {
         0 => sheet[random.range(0, 9) as usize] = random.of(&[negative, 16384 + beyond, 32767]),
         1 => {
             let subframe = random.range(0, 3) as usize;
-            let last = if subframe % 2 == 0 { 255 } else { 31 };
+            let last = if subframe.is_multiple_of(2) { 255 } else { 31 };
             sheet[at::PITCH + subframe] = random.of(&[negative, last + beyond, 32767]);
         }
         _ => sheet[at::GAINS + random.range(0, 7) as usize] = negative,
@@ -133,7 +134,7 @@ impl Tally {
     fn count(&mut self, lent: &Lent) {
         self.frames += 1;
         if lent.code == 0 {
-            self.retried += lent.flags.iter().filter(|flag| **flag == 1).count();
+            self.retried += lent.retried();
         } else {
             self.refused += 1;
         }
@@ -153,7 +154,7 @@ impl Tally {
 
     fn differs(&self, report: &mut Report, name: &str, sheet: &[i16], state: &[u8]) {
         report.line(false, &format!("{name}: frame {}", self.frames));
-        println!("sheet {sheet:?}\nstate {:?}", differential::words(state));
+        println!("sheet {sheet:?}\nstate {:?}", words(state));
     }
 }
 
@@ -180,10 +181,10 @@ fn chained(report: &mut Report, random: &mut Random, kind: usize, frames: u64) {
 
 /// An accepted call left what the source's decoder, going its own way from the indices, gives.
 fn agrees(lent: &Lent, wanted: &Decoded) -> bool {
-    let flags = wanted.flags.map(|flag| flag as u8);
+    let places = wanted.places.map(|place| place as u8);
     lent.out == bytes(&wanted.samples)
         && lent.rows == bytes(wanted.rows.as_flattened())
-        && lent.flags == flags
+        && lent.places == places
         && lent.state == bytes(&wanted.state)
 }
 
@@ -267,9 +268,9 @@ fn lengths(report: &mut Report, random: &mut Random) {
         cut(&mut lent.rows, length);
         same(&mut lent, whole)
     });
-    all(report, "flags of each length", 0..=16, |&length| {
+    all(report, "places of each length", 0..=16, |&length| {
         let mut lent = opening.clone();
-        cut(&mut lent.flags, length);
+        cut(&mut lent.places, length);
         same(&mut lent, whole)
     });
     let near = |length: usize| [length - 2, length - 1, length, length + 1, length + 2];
@@ -278,8 +279,8 @@ fn lengths(report: &mut Report, random: &mut Random) {
         for out in near(OUT_BYTES) {
             for state in near(STATE_BYTES) {
                 for rows in near(ROWS_BYTES) {
-                    for flags in near(FLAGS_BYTES) {
-                        several.push((sheet, out, state, rows, flags));
+                    for places in near(PLACES_BYTES) {
+                        several.push((sheet, out, state, rows, places));
                     }
                 }
             }
@@ -287,14 +288,14 @@ fn lengths(report: &mut Report, random: &mut Random) {
     }
     all(
         report,
-        "sheet, output, state, rows and flags about their lengths",
+        "sheet, output, state, rows and places about their lengths",
         several,
-        |&(length, out, state, rows, flags)| {
+        |&(length, out, state, rows, places)| {
             let mut lent = opening.clone();
             cut(&mut lent.out, out);
             cut(&mut lent.state, state);
             cut(&mut lent.rows, rows);
-            cut(&mut lent.flags, flags);
+            cut(&mut lent.places, places);
             same(&mut lent, &sheet[..length])
         },
     );
@@ -343,6 +344,28 @@ fn limits(report: &mut Report, random: &mut Random) {
                 && writes(&bytes(&state), record::RECORD)
         },
     );
+}
+
+/// The places of the sheets of `examples/call.bin`, by both: two subframes are retried, and sheet 9 is refused.
+fn places(report: &mut Report) {
+    let call = examples::input("call").expect("the run is listed");
+    let (record, sheets) = call.split_at(record::RECORD);
+    let mut ours = Lent::new(&words(&record[..STATE_BYTES]), 0x5A);
+    let mut reference = ours.clone();
+    let name = "places of the sheets of examples/call.bin";
+    all(report, name, 1..=13, |&number| {
+        let sheet = &sheets[SHEET_BYTES * (number - 1)..SHEET_BYTES * number];
+        let wanted = match number {
+            1 => [12, 40, 40, 40],
+            13 => [40, 40, 17, 40],
+            _ => [40; 4],
+        };
+        ours.ours(sheet);
+        reference.reference(sheet);
+        [&ours, &reference]
+            .iter()
+            .all(|lent| lent.places == wanted && (lent.code != 0) == (number == 9))
+    });
 }
 
 fn reads(record: &[u8], room: usize) -> bool {
@@ -425,6 +448,7 @@ fn main() -> ExitCode {
     };
     let mut report = Report::default();
     let mut random = Random::new(seed);
+    places(&mut report);
     lengths(&mut report, &mut random);
     limits(&mut report, &mut random);
     records(&mut report, &mut random);
