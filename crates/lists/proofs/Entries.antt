@@ -6,7 +6,7 @@ use mathlib.Core.Logic.{⊎-elim}
 use native.Mathlib.Numerals.{add-one}
 use native.Mathlib.Nat.{add-comm, not-suc-le-zero, le-of-suc-le-suc, eq-or-lt-of-le}
 use native.Mathlib.Omega.{arith}
-use lib.ListN.{length, take, drop, length-append, length-drop, List·getD-append}
+use lib.ListN.{length, take, drop, getD, length-append, length-drop, List·getD-append}
 use lib.Seq.{getD-at, getD-drop, getD-take, getD-append-add, length-take-le, take-all}
 use lib.IntN.{ℤ, pos}
 use Rattle.lists.specs.Lists.{at, tab, pairwise, Every}
@@ -54,6 +54,15 @@ at-pairwise f [] ys i h k = absurd (not-suc-le-zero h)
 at-pairwise f (x ∷ xs) [] i h k = absurd (not-suc-le-zero k)
 at-pairwise f (x ∷ xs) (y ∷ ys) zero h k = refl
 at-pairwise f (x ∷ xs) (y ∷ ys) (suc i) h k = at-pairwise f xs ys i (le-of-suc-le-suc h) (le-of-suc-le-suc k)
+
+-- a list of four, one by one
+pub four-entries : {A : Type 0} (d : A) (xs : List A) → length xs ≡ 4 → getD xs 0 d ∷ getD xs 1 d ∷ getD xs 2 d ∷ getD xs 3 d ∷ [] ≡ xs
+four-entries d [] e = absurd (omega (arith, e))
+four-entries d (w ∷ []) e = absurd (omega (arith, e))
+four-entries d (w ∷ x ∷ []) e = absurd (omega (arith, e))
+four-entries d (w ∷ x ∷ y ∷ []) e = absurd (omega (arith, e))
+four-entries d (w ∷ x ∷ y ∷ z ∷ []) e = refl
+four-entries d (w ∷ x ∷ y ∷ z ∷ v ∷ vs) e = absurd (omega (arith, e))
 
 -- ---- what holds of every entry
 pub every-append : {A : Type 0} (P : A → Type 0) (xs ys : List A) → Every P xs → Every P ys → Every P (xs ++ ys)

@@ -1,11 +1,10 @@
 -- A sheet's lags and inputs. Assumes nothing.
 use Prim.Native.Nat.{ℕ, _+_, _*_}
 use mathlib.Core.Path.{_≡_, refl, ap, _∙_}
-use mathlib.Core.List.{List, [], _∷_, _++_, map}
+use mathlib.Core.List.{List, [], _∷_, _++_}
 use native.Mathlib.Omega.{arith}
 use lib.Dec.{T, leb→le}
 use lib.IntN.{ℤ, pos, negsuc, natAbs}
-use lib.ListN.{length, getD}
 use lib.Signed.{_≤ℤ_, nonNeg}
 use mir.Syntax.{w8}
 use mir.Val.{Fits}
@@ -14,7 +13,6 @@ use Rattle.pitch.specs.declared.PitchLag.{PitchLag}
 use Rattle.pitch.specs.Lag.{absolute, relative, lagOf}
 use Rattle.decoder.specs.declared.Parameters.{Parameters}
 use Rattle.decoder.specs.Inputs.{subframeOf, inputsOf}
-use Rattle.decoder.specs.Subframe.{flagOf}
 use Rattle.mr74.specs.declared.sheet.LagPair.{LagPair}
 use Rattle.mr74.specs.Sheet.{lsfsOf, lagPair, innovationOf, subframeAt, subframesFrom, sheetInputs}
 use Rattle.mr74.specs.Inner.{twoLags}
@@ -27,15 +25,6 @@ byte-fits (negsuc n) h k = absurd (h .le)
 -- ---- the lags
 pub lags-are : (a b : PitchLag) {i j : ℕ} {n m : ℤ} → pos i ≡ n → pos j ≡ m → lagOf a ≡ absolute (pos i) → lagOf b ≡ relative (pos j) (lagOf a .samples) → twoLags (record { first = a; second = b }) ≡ lagPair n m
 lags-are a b ei ej ea eb = let k = ea ∙ ap absolute ei in λ t. k t ∷ (eb ∙ (λ s. relative (ej s) (k s .samples))) t ∷ []
-
--- ---- four flags
-pub four-flags : (ps : List ℕ) → length ps ≡ 4 → flagOf (getD ps 0 0) ∷ flagOf (getD ps 1 0) ∷ flagOf (getD ps 2 0) ∷ flagOf (getD ps 3 0) ∷ [] ≡ map flagOf ps
-four-flags [] e = absurd (omega (arith, e))
-four-flags (p ∷ []) e = absurd (omega (arith, e))
-four-flags (p ∷ q ∷ []) e = absurd (omega (arith, e))
-four-flags (p ∷ q ∷ r ∷ []) e = absurd (omega (arith, e))
-four-flags (p ∷ q ∷ r ∷ s ∷ []) e = refl
-four-flags (p ∷ q ∷ r ∷ s ∷ t ∷ ps) e = absurd (omega (arith, e))
 
 -- ---- the inputs
 pub parameters-are : (sheet : List ℤ) (k : ℕ) (lag : PitchLag) {x y : ℤ} {code : List ℤ} → x ≡ at sheet (14 + 2 * k) → y ≡ at sheet (15 + 2 * k) → code ≡ innovationOf sheet k

@@ -1,5 +1,5 @@
--- Numbers of a record's bytes: one by one, stretch by stretch, places, and numbers of 32 bits. Assumes nothing.
-use mathlib.Core.Path.{_≡_, refl, ap, sym, _∙_}
+-- Numbers of a record's bytes: one by one, stretch by stretch, and numbers of 32 bits. Assumes nothing.
+use mathlib.Core.Path.{_≡_, ap, sym, _∙_}
 use mathlib.Core.List.{List, [], _∷_, map}
 use Prim.Native.Nat.{ℕ, zero, suc, _+_, _*_, _^_, _<_}
 use native.Mathlib.Omega.{arith}
@@ -35,15 +35,6 @@ same-bits h k e = sym (back w16 h) ∙ ap (toZ w16) e ∙ back w16 k
 -- ---- stretches of bytes, and the numbers of all of them
 pub stretches-joined : (b : List ℕ) (ns : List ℕ) → length b ≡ 2 * total ns → joined (map words (stretches 0 (doubled ns) b)) ≡ words b
 stretches-joined b ns l = ap joined (words-cut ns b) ∙ joined-cut ns (words b) (words-length b (total ns) l)
-
--- ---- four places, one by one
-pub four-places : (ns : List ℕ) → length ns ≡ 4 → getD ns 0 0 ∷ getD ns 1 0 ∷ getD ns 2 0 ∷ getD ns 3 0 ∷ [] ≡ ns
-four-places [] e = absurd (omega (arith, e))
-four-places (a ∷ []) e = absurd (omega (arith, e))
-four-places (a ∷ b ∷ []) e = absurd (omega (arith, e))
-four-places (a ∷ b ∷ c ∷ []) e = absurd (omega (arith, e))
-four-places (a ∷ b ∷ c ∷ d ∷ []) e = refl
-four-places (a ∷ b ∷ c ∷ d ∷ x ∷ ns) e = absurd (omega (arith, e))
 
 -- ---- a number of 32 bits from its high and its low sixteen
 pub long-fits : (h : ℤ) (l : ℕ) → SFits w16 h → l < 65536 → SFits w32 (h *ℤ pos 65536 +ℤ pos l)
