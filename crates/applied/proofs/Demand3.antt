@@ -1,7 +1,7 @@
 -- `demand-3` at the two calls of specs/Examples.antt: its premises are the fields of `example`, and each conclusion is a field of it, so that a field that
 -- says less, or a premise that asks more, is refused here. The call stays shut: nothing is computed. Assumes nothing.
 use mathlib.Core.Path.{_≡_, refl, sym, ap, _∙_, subst}
-use mathlib.Core.Bool.{true, false}
+use mathlib.Core.Bool.{true}
 use mathlib.Core.List.{List, [], _∷_, map}
 use Prim.Native.Nat.{ℕ}
 use native.Mathlib.Omega.{arith}

@@ -70,9 +70,9 @@ lag samples thirds = record { samples = pos samples; thirds = thirds }
 abbrev pub quotient : ℕ → ℕ → Quotient
 quotient value divisor = record { value = pos value; divisor = pos divisor }
 
--- The first and the last subframe were retried: a step clamped first in sample 8 of the one and in sample 19 of the other. Each subframe has a tilt above 0. Twelve quotients, each by its value and its divisor: enhancement in each
--- subframe; then in each the tilt, whose value is the tilt above, and the gain control. Sharpening, and the past after a retry, reach the upper ends of
--- their ranges
+-- The first and the last subframe were retried: a step clamped first in sample 8 of the one and in sample 19 of the other. Each subframe has a tilt
+-- above 0. Twelve quotients, each by its value and its divisor: enhancement in each subframe; then in each the tilt, whose value is the tilt above, and the
+-- gain control. Sharpening, and the past after a retry, reach the upper ends of their ranges
 abbrev pub expected : Seen
 expected =
     record {

@@ -3,7 +3,7 @@ ghost use mathlib.Core.Path.{_≡_};
 ghost use lib.ListN.{length, take};
 ghost use Rattle.mr74.specs.Frame.{callResult};
 ghost use Rattle.lines.specs.Put.{lineRoom, Within};
-ghost use Rattle.sheets.specs.Sheets.{sheetBytes, sheetCall, stepResult};
+ghost use Rattle.sheets.specs.Sheets.{sheetBytes, stepResult};
 ghost use Rattle.bench_output.specs.Output.{answerLine};
 ghost use Rattle.bench_output.specs.Steps.{sheetStep};
 use mr74::FrameAnswer;

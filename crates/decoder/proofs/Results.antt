@@ -87,8 +87,10 @@ synthesis-placed f h p e = go (overflowed 10 (f .row) (f .excitation) h) (overfl
   where
     n : ℕ
     n = overflowedAt 10 (f .row) (f .excitation) h
+
     most : n ≤ 40
     most = rw e at (overflowedAt-most 10 (f .row) (f .excitation) h)
+
     go : (b : Bool) → b ≡ flagOf n → Placed (cond b (retriedResult f h p) (unretriedResult f h p))
     go true k = record { most = most; flag = k }
     go false k = record { most = most; flag = k }
