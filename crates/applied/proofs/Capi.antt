@@ -1,5 +1,5 @@
--- `refused-unchanged` at two frame calls over bytes: the returned numbers are computed, and the calls stay shut where the theorem is applied.
--- Assumes nothing.
+-- `refused-unchanged` at two frame calls over bytes: the returned numbers, and the places of one, are computed, and the calls stay
+-- shut where the theorem is applied. Assumes nothing.
 use mathlib.Core.Path.{_≡_, refl}
 use mathlib.Core.List.{List, [], _∷_}
 use Prim.Native.Nat.{ℕ, suc}

@@ -1,4 +1,5 @@
--- `RefusedUnchanged` (capi/specs/Capi.antt) applied to two frame calls over bytes, one turned back by its sheet and one by its state.
+-- `RefusedUnchanged` (capi/specs/Capi.antt) applied to two frame calls over bytes, one turned back by its sheet and one by its state; and the places
+-- of the first, computed.
 -- The theorem is `unchanged-applied` in proofs/Capi.antt.
 use mathlib.Core.Path.{_≡_}
 use mathlib.Core.List.{List, [], _∷_}

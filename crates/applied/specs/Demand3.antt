@@ -58,7 +58,7 @@ pub record Lengths (m : Machine) (u : SubframeResult) : Type 0 where
   pub past : length (m .past) ≡ 154
   pub samples : length (u .synthesis .samples) ≡ 40
 
--- its place is n, and the machine's whole numbers leave 32 bits in sample n first
+-- its place is n, and the machine's whole numbers leave 32 bits first in sample n, in none where n is 40
 pub record Placed (m : Machine) (u : SubframeResult) (n : ℕ) : Type 0 where
   pub within : u .synthesis .place ≤ 40
   pub is : u .synthesis .place ≡ n

@@ -1,4 +1,4 @@
-/* Reads a record, decodes two frames and writes the record of the state that they leave.
+/* Reads a record, decodes a frame, has others refused, and writes the record of the state that it leaves.
  * Its last line is 'N passed, M failed'. */
 #include "mr74.h"
 

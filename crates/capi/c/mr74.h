@@ -3,8 +3,9 @@
  * Numbers of 16 bits are two bytes each, two's complement, low byte first. A buffer is a pointer, which is not null, and its
  * length in bytes; no two buffers of a call overlap. A state is the 394 bytes of a record's body.
  *
- * A call returns number + 256 * place: the refusal's number, 0 where the call was accepted, and the place that goes with
- * 2, 3 and 4, else 0. It returns MR74_UNFIT, and changes nothing, where state, rows or places has another length than its own.
+ * A call returns number + 256 * place: the refusal's number, 0 where the call was accepted, and the refusal's place, which
+ * goes with 2, 3 and 4, else 0 (it is none of the four in places). It returns MR74_UNFIT, and changes nothing, where state,
+ * rows or places has another length than its own.
  * A sheet or an output of another length is refused by the paper's numbers, 1 and 5. */
 #ifndef MR74_H
 #define MR74_H

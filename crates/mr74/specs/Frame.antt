@@ -29,7 +29,7 @@ postResultOf inputs s = postfilterResult (s .post) (coreResultOf inputs s .rows)
 abbrev pub nextStateOf : FrameInputs → State → State
 nextStateOf inputs s = record { core = coreResultOf inputs s .next; post = postResultOf inputs s .output .memory }
 
--- ---- all that document 01 speaks of in a call
+-- ---- all that the papers speak of in a call
 pub record Trace : Type 0 where
   -- the refusal, or that it was accepted
   pub outcome : Outcome
@@ -39,7 +39,7 @@ pub record Trace : Type 0 where
   -- of each subframe: what its synthesis was fed (row, feedback before any quartering, first excitation), what came of it (whether it was retried, place,
   -- synthesis samples, feedback, past), and the core's state after it
   pub subframes : List SubframeResult
-  -- of each subframe: the first sample, 0 to 39, at which a step of its first pass clamped, 40 where none did
+  -- of each subframe: the first sample, 0 to 39, at which a step of its first pass clamped, 40 where none did; 40 four times where the call was refused
   pub places : List ℕ
   -- of each subframe
   pub tilts : List ℤ

@@ -27,7 +27,7 @@ pub const SAMPLES: usize = 160;
 pub struct FrameAnswer {
     pub outcome: Outcome,
     pub rows: Rows,
-    // of each subframe the first sample, 0 to 39, at which a step of its first pass clamped, 40 where none did
+    // of each subframe the first sample, 0 to 39, at which a step of its first pass clamped, 40 where none did; 40 four times where the call was refused
     pub places: [usize; 4],
     pub next: State,
 }

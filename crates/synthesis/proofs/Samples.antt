@@ -1,4 +1,4 @@
--- Lengths, ranges, and the flag from the place. Assumes nothing.
+-- Lengths, ranges, and overflow by the place. Assumes nothing.
 use Prim.Native.Nat.{ℕ, zero, suc, _+_, _*_, _-_, _≤_}
 use mathlib.Core.Path.{_≡_, refl, sym, ap, _∙_}
 use mathlib.Core.Bool.{false}

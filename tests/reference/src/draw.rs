@@ -15,10 +15,10 @@ use std::collections::BTreeMap;
 
 type Records = Vec<Vec<i16>>;
 
-/// No candidate is kept for these: they came after the records were drawn, which stay as they were.
+/// The search takes no account of these, so that the records that it keeps stay the same;
 /// `Chosen::complete` puts behind them what they lack.
-const LATER_KIND: &str = "place";
-const LATER_FAULTS: [Fault; 2] = [Fault::PlaceByLastSteps, Fault::PlaceOnFeedback];
+const UNSOUGHT_KIND: &str = "place";
+const UNSOUGHT_FAULTS: [Fault; 2] = [Fault::PlaceByLastSteps, Fault::PlaceOnFeedback];
 
 /// Records of a file, and how often they show each kind and give each fault away.
 struct Chosen<'a> {
@@ -60,7 +60,7 @@ impl<'a> Chosen<'a> {
     }
 
     fn is_wanted(&self, (name, number): (&'static str, i16)) -> bool {
-        name != LATER_KIND
+        name != UNSOUGHT_KIND
             && self.wanted.iter().any(|kind| match kind {
                 Kind::One(wanted) => *wanted == name,
                 Kind::Each(wanted, numbers) => *wanted == name && numbers.contains(&number),
@@ -79,7 +79,7 @@ impl<'a> Chosen<'a> {
         let catches = || {
             let mut faults = self.file.faults.iter().zip(&self.caught);
             faults.any(|(&fault, &caught)| {
-                let sought = caught < enough && !LATER_FAULTS.contains(&fault);
+                let sought = caught < enough && !UNSOUGHT_FAULTS.contains(&fault);
                 sought && self.gives_away(fault, &record)
             })
         };
@@ -912,7 +912,7 @@ fn frames(file: &File, random: &mut Random, size: usize, enough: usize, keep: bo
         chosen.offer(any(), enough);
     }
     chosen.complete(&mut any, |_, record| called(record).places.contains(&39));
-    for fault in LATER_FAULTS {
+    for fault in UNSOUGHT_FAULTS {
         chosen.complete(&mut any, |chosen, record| chosen.gives_away(fault, record));
     }
     chosen.records

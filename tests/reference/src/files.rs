@@ -660,7 +660,7 @@ pub static FILES: [File; 17] = [
             words("sheet, zeros after its end", SHEET_AREA),
             words("state", STATE),
         ],
-        answers: &[words("refusal", 1), words("place", 1)],
+        answers: &[words("refusal", 1), words("place of the refusal", 1)],
         draw: draw::refused,
         answer: |input| {
             let sheet = &input[2..2 + input[0] as usize];

@@ -1,5 +1,5 @@
 //! Where a synthesis first clamped: the first sample at which one of its steps did, 40 where none
-//! did. Two patched places of the published code tell it here by value; nothing goes back to them.
+//! did. Two patched lines of the published code tell it here by value; nothing goes back to them.
 #![warn(unused, clippy::all)]
 
 use super::{SUBFRAMES, decoder::Frame, synthesis::Output};

@@ -1,4 +1,4 @@
--- `synthesis::preview` meets its contract: the samples are those of the first pass after the history.
+-- `synthesis::preview` meets its contract: the place is that of the first pass, and the samples are its own without the history before them.
 use Prim.Native.Nat.{_-_}
 use borrow.Author.Needs.{needs}
 use mathlib.Core.Path.{_≡_, ap, _∙_}
