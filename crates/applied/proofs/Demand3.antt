@@ -9,7 +9,7 @@ use lib.IntN.{ℤ}
 use lib.ListN.{length, getD}
 use Rattle.lists.specs.Lists.{at}
 use Rattle.decoder.specs.Subframe.{flagOf}
-use Rattle.decoder.specs.Core.{SubframeResult}
+use Rattle.decoder.specs.Core.{SubframeResult, placesOf}
 use Rattle.mr74.specs.Frame.{Trace}
 use Rattle.state.specs.declared.State.{State}
 use Rattle.calls.specs.Calls.{stateAfter, accepted}
@@ -97,20 +97,17 @@ four (a ∷ b ∷ c ∷ []) e = absurd (omega (arith, e))
 four (a ∷ b ∷ c ∷ d ∷ []) e = record { a = a; b = b; c = c; d = d; are = refl }
 four (a ∷ b ∷ c ∷ d ∷ u ∷ us) e = absurd (omega (arith, e))
 
-abbrev placesIn : List SubframeResult → List ℕ
-placesIn us = map (λ (u : SubframeResult). u .synthesis .place) us
-
 first-places : first .places ≡ expected .places
 first-places = ap (λ (e : Seen). e .places) (example .call)
 
-places-are : placesIn (first .subframes) ≡ expected .places
+places-are : placesOf (first .subframes) ≡ expected .places
 places-are = sym (accepted-first .places) ∙ first-places
 
 subframes-are : Subframes
 subframes-are =
     let f = four (first .subframes) (accepted-first .four) in
     let k = subst (SubframesAsMeasured opened) (f .are) (accepted-first .subframes) in
-    let e = sym (ap placesIn (f .are)) ∙ places-are in
+    let e = sym (ap placesOf (f .are)) ∙ places-are in
     record {
       a = f .a;
       b = f .b;

@@ -2,6 +2,7 @@
 use mathlib.Core.Path.{_≡_, refl, ap}
 use mathlib.Core.Bool.{false, cond, _||_}
 use mathlib.Core.List.{flatMap}
+use lib.IntN.{pos}
 use lib.ListN.{getD}
 use Rattle.lists.specs.Lists.{iter, tab}
 use Rattle.basicop.specs.Ops.{clamp, asr, wrap, add, sub, mult, shl, L-add, L-sub, L-mult, L-shl, L-shr-r, L-deposit-h, doublings, norm-l, div-s, L-Extract, Mpy-32-16}
@@ -31,21 +32,12 @@ use Rattle.mr74.specs.Checks.{frameOutcome}
 use Rattle.mr74.specs.Frame.{frameTrace}
 use Rattle.calls.specs.Calls.{traceOf, runCalls, anyAccepted, latestPlace}
 use Rattle.applied.specs.Examples.{silent, loud, call, Seen, seen, expected, Example, RefusedTrace}
-use Rattle.applied.proofs.Concrete.{zeros}
+use Rattle.applied.specs.Handover.{stateWith}
+use Rattle.applied.proofs.Concrete.{with-well-formed}
 
 silent-well-formed : WellFormed silent
-unfolding silent stateOf coreOf postOf
-silent-well-formed =
-    record {
-      lsp = zeros 10;
-      past = zeros 154;
-      sharpening = zero-fits;
-      history = zeros 10;
-      input-history = zeros 10;
-      synthesis-history = zeros 10;
-      previous-residual = zero-fits;
-      previous-gain = zero-fits;
-    }
+unfolding silent stateWith stateOf coreOf postOf
+silent-well-formed = with-well-formed (pos 0) (pos 0) zero-fits zero-fits
 
 seen-is : seen (traceOf silent call) ≡ expected
 unfolding flatMap iter tab clamp asr wrap add sub mult shl L-add L-sub L-mult L-shl L-shr-r L-deposit-h doublings norm-l div-s L-Extract Mpy-32-16 absolute lag-min relative cosine between lspOf raisedAt polynomial rowOf rowsOf inter6 phase start interpolated extended predicted sharpened sharpening feedback squares energy energyGain agc2 inverseTable rootScaled inverseRoot outside recursion stepNumbers someOutside someListOutside firstListOutside acc accs enhanced firstExcitation synthesisResult excitations subframeResult subframeResults coreResult firstMet stateOf coreOf postOf firstOutside frameOutcome frameTrace loud silent numerator denominator weighted residualSum residual tilts.impulse tilts.correlation tilts.tiltOf tilts.tilt preemphasised filterResult postfilterResult agc controlled

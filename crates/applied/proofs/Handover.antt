@@ -21,7 +21,7 @@ use Rattle.record.proofs.Handover.{read-back, same-outcome, same-rest}
 use Rattle.calls.specs.Calls.{stateAfter}
 use Rattle.applied.specs.Examples.{silent, calls}
 use Rattle.applied.specs.Handover.{silentRecord, note, Read, ReadApplied, stateWith, TurnedBack, RestApplied}
-use Rattle.applied.proofs.Concrete.{zeros, bytes-by}
+use Rattle.applied.proofs.Concrete.{with-well-formed, bytes-by}
 use Rattle.applied.proofs.Examples.{example}
 use Rattle.applied.proofs.Calls.{calls-applied}
 
@@ -56,20 +56,6 @@ read-applied =
     }
 
 -- ---- same-outcome
-with-well-formed : (x g : ℤ) → SFits w16 x → SFits w16 g → WellFormed (stateWith x g)
-unfolding stateWith stateOf coreOf postOf
-with-well-formed x g f h =
-    record {
-      lsp = zeros 10;
-      past = zeros 154;
-      sharpening = f;
-      history = zeros 10;
-      input-history = zeros 10;
-      synthesis-history = zeros 10;
-      previous-residual = zero-fits;
-      previous-gain = h;
-    }
-
 turned : (x g : ℤ) (n : List ℕ) → SFits w16 x → SFits w16 g → readCall (n ++ encoded (stateWith x g)) .answer .outcome ≡ stateOutcome (stateWith x g)
 turned x g n f h = same-outcome (stateWith x g) (with-well-formed x g f h) n
 

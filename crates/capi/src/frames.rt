@@ -109,8 +109,8 @@ pub fn give(answer: FrameAnswer, state: &mut [u8], rows: &mut [u8], places: &mut
     coding::write_body(next, state);
     let four = answer.rows;
     write_rows(four, rows);
-    let first = answer.places;
-    write_places(first, places);
+    let first_clamps = answer.places;
+    write_places(first_clamps, places);
     let outcome = answer.outcome;
     code(outcome)
 }
