@@ -1,10 +1,9 @@
 -- The sheets of an input one by one: none where nothing is left, and otherwise the first 364 bytes and the sheets of the rest. Assumes nothing.
-use mathlib.Core.Path.{_≡_, refl, ap, _∙_, sym}
+use mathlib.Core.Path.{_≡_, refl}
 use native.Mathlib.Omega.{arith}
 use mathlib.Core.List.{List, [], _∷_}
-use Prim.Native.Nat.{ℕ, zero, suc, _+_, _-_, _/_, _<_, _≤_}
-use lib.ListN.{length, take, drop, replicate, length-drop}
-use Rattle.lists.specs.Parts.{cut}
+use Prim.Native.Nat.{ℕ, suc, _+_, _-_, _/_, _<_}
+use lib.ListN.{length, take, drop, length-drop}
 use Rattle.sheets.specs.Sheets.{sheetsOf}
 
 -- one sheet more than in the rest
