@@ -1,10 +1,10 @@
 -- Lists of integers by their entries, and steps that are counted: what the definitions of all stages are written with. What holds of every entry of a list,
--- and how many tests are true.
+-- how many tests are true, and sums.
 use Prim.Native.Nat.{ℕ, zero, suc, _+_}
 use mathlib.Core.Bool.{Bool, false, cond}
 use mathlib.Core.List.{List, [], _∷_, _++_}
 use lib.Dec.{eqb}
-use lib.IntN.{ℤ, pos, negsuc, negℤ}
+use lib.IntN.{ℤ, pos, negsuc, negℤ, _+ℤ_}
 use lib.ListN.{getD}
 
 -- a negative number, as a table prints it: -n
@@ -54,6 +54,16 @@ oneIf b = cond b 1 0
 abbrev pub count : List Bool → ℕ
 count [] = 0
 count (b ∷ bs) = oneIf b + count bs
+
+-- the entries of which the test is true, in order
+abbrev pub filter : {A : Type 0} → (A → Bool) → List A → List A
+filter f [] = []
+filter f (x ∷ xs) = cond (f x) (x ∷ filter f xs) (filter f xs)
+
+-- all the integers together; `total` (Parts.antt) of naturals
+abbrev pub totalZ : List ℤ → ℤ
+totalZ [] = pos 0
+totalZ (z ∷ zs) = z +ℤ totalZ zs
 
 -- P holds of every entry
 abbrev pub Every : {A : Type 0} → (A → Type 0) → List A → Type 0
