@@ -3,8 +3,9 @@ use mathlib.Core.Path.{_≡_, refl, sym, ap, _∙_, subst}
 use mathlib.Core.Bool.{Bool, true, false}
 use mathlib.Core.List.{List}
 use lib.IntN.{ℤ}
-use lib.ListN.{length, getD}
+use lib.ListN.{length, getD, length-map}
 use Rattle.lists.specs.Lists.{Every}
+use Rattle.basicop.specs.Words.{Words}
 use Rattle.decoder.specs.Inputs.{FrameInputs, Usable}
 use Rattle.decoder.specs.Subframe.{flagOf}
 use Rattle.decoder.proofs.Retry.{Small}
@@ -16,7 +17,7 @@ use Rattle.state.specs.State.{WellFormed, stateOutcome}
 use Rattle.state.proofs.Checks.{InRange, in-range-accepted}
 use Rattle.mr74.specs.Sheet.{sheetInputs}
 use Rattle.mr74.specs.Checks.{frameOutcome}
-use Rattle.mr74.specs.Frame.{Trace, acceptedTrace, refusedTrace, traceBy, frameTrace}
+use Rattle.mr74.specs.Frame.{Trace, coreResultOf, acceptedTrace, refusedTrace, traceBy, frameTrace}
 use Rattle.mr74.proofs.Passed.{passed}
 use Rattle.mr74.proofs.Usable.{usable}
 use Rattle.calls.specs.Calls.{Call, FrameCall, traceOf, nextState, accepted}
@@ -78,6 +79,13 @@ SmallPast s = (length (s .core .past) ≡ 154) × Every Small (s .core .past)
 module _ (s : State) (c : Call) (w : WellFormed s) (e : accepted (traceOf s c) ≡ true) where
   result : FrameFacts (accepts s c e .inputs) s
   result = let a = accepts s c e in frame-facts (a .inputs) s (a .usable) w (a .state)
+
+  -- 160 samples of 16 bits, and four places
+  pub accepted-samples : Words 160 (traceOf s c .output)
+  accepted-samples = subst (λ (t : Trace). Words 160 (t .output)) (sym (accepts s c e .trace)) (result .samples)
+
+  pub accepted-places : length (traceOf s c .places) ≡ 4
+  accepted-places = subst (λ (t : Trace). length (t .places) ≡ 4) (sym (accepts s c e .trace)) (length-map (coreResultOf (accepts s c e .inputs) s .subframes) _ ∙ result .core .four)
 
   pub next-facts : NextFacts (nextState s c)
   next-facts = subst (λ (t : Trace). NextFacts (t .next)) (sym (accepts s c e .trace)) (result .next)

@@ -8,6 +8,7 @@ use Rattle.lists.specs.Lists.{Every}
 use Rattle.lists.proofs.Entries.{every-append, every-map}
 use Rattle.basicop.specs.Ops.{Quotient}
 use Rattle.basicop.specs.Divided.{Divides}
+use Rattle.basicop.specs.Words.{Words}
 use Rattle.basicop.proofs.Ints.{≤ℤ-trans, le-in}
 use Rattle.basicop.proofs.Range.{sfits-range, sfits-from}
 use Rattle.basicop.proofs.Words.{words-map}
@@ -36,6 +37,7 @@ pub record NextFacts (s : State) : Type 0 where
 pub record FrameFacts (inputs : FrameInputs) (s : State) : Type 0 where
   pub core : CoreFacts (lspsOf (inputs .lsfs)) (coreResultOf inputs s)
   pub post : Framed 512 4 (postResultOf inputs s)
+  pub samples : Words 160 (postResultOf inputs s .output .samples)
   pub next : NextFacts (nextStateOf inputs s)
 
 module _ (inputs : FrameInputs) (s : State) (u : Usable inputs) (w : WellFormed s) (k : InRange s) where
@@ -52,6 +54,7 @@ module _ (inputs : FrameInputs) (s : State) (u : Usable inputs) (w : WellFormed 
       record {
         core = c;
         post = framed-rows (s .post) (coreResultOf inputs s .rows) ys (rows-first (s .core .lsp) (lspsOf (inputs .lsfs)));
+        samples = p .samples;
         next = record {
           well-formed = record {
             lsp = rw (c .next .lsp) (words-map lspOf lsp-fits (inputs .lsfs) (u .ten));

@@ -2,8 +2,8 @@
 use mathlib.Core.Path.{_≡_, refl, sym, ap, _∙_, subst}
 use mathlib.Core.Bool.{Bool, true, false, cond, _||_, true≢false}
 use mathlib.Core.List.{List, [], _∷_, _++_}
-use Prim.Native.Nat.{ℕ}
-use lib.ListN.{getD}
+use Prim.Native.Nat.{ℕ, suc}
+use lib.ListN.{length, getD}
 use Rattle.decoder.specs.Subframe.{flagOf}
 use Rattle.state.specs.declared.State.{State}
 use Rattle.outcome.specs.declared.Outcome.the-variants.{Accepted}
@@ -22,6 +22,12 @@ pub run-append : (cs ds : List Call) (s : State) → runCalls s (cs ++ ds) ≡ r
 unfolding stateAfter runCalls
 run-append [] ds s = refl
 run-append (c ∷ cs) ds s = ap (λ (ts : List Trace). traceOf s c ∷ ts) (run-append cs ds (nextState s c))
+
+-- a trace for each call
+pub run-length : (s : State) (cs : List Call) → length (runCalls s cs) ≡ length cs
+unfolding runCalls
+run-length s [] = refl
+run-length s (c ∷ cs) = ap suc (run-length (nextState s c) cs)
 
 -- ---- what every accepted call brings about
 module _ (P : State → Type 0) (after : (s : State) (c : Call) → WellFormed s → accepted (traceOf s c) ≡ true → P (nextState s c)) where
