@@ -2,13 +2,13 @@
 use mathlib.Core.Path.{_≡_, refl}
 use mathlib.Core.Bool.{Bool, true, false, cond, _||_}
 use mathlib.Core.List.{List, [], _∷_, map, foldl}
-use Prim.Native.Nat.{_<_, _^_}
+use Prim.Native.Nat.{ℕ, suc, _<_, _^_}
 use native.Mathlib.Omega.{arith}
 use lib.IntN.{ℤ, pos}
 use lib.ListN.{length, getD}
 use lib.Signed.{ltZ, mag}
 use mir.Syntax.{w16, w32}
-use mir.Val.{toZ, ofZ, hbits}
+use mir.Val.{SFits, toZ, ofZ, hbits}
 use mir.Facts.{toZ-ofZ}
 use Rattle.basicop.proofs.Range.{sfits-wider}
 use Rattle.lists.proofs.Signed.{back}
@@ -34,6 +34,20 @@ pub peak-from : (xs : List ℤ) → 0 < length xs → foldl larger (at xs 0) xs 
 unfolding peakOf
 peak-from [] h = absurd (omega (arith, h))
 peak-from (x ∷ xs) h = rw (either (ltZ x x) x)
+
+-- the peak of 16-bit numbers is one
+larger-fits : (a b : ℤ) → SFits w16 a → SFits w16 b → (t : Bool) → SFits w16 (cond t b a)
+larger-fits a b f g true = g
+larger-fits a b f g false = f
+
+fold-fits : (x : ℤ) (xs : List ℤ) → SFits w16 x → ((i : ℕ) → SFits w16 (at xs i)) → SFits w16 (foldl larger x xs)
+fold-fits x [] f g = f
+fold-fits x (y ∷ ys) f g = fold-fits (larger x y) ys (larger-fits x y f (g 0) (ltZ x y)) (λ i. g (suc i))
+
+pub peak-fits : (xs : List ℤ) → ((i : ℕ) → SFits w16 (at xs i)) → SFits w16 (peakOf xs)
+unfolding peakOf
+peak-fits [] f = f 0
+peak-fits (x ∷ xs) f = fold-fits x xs (f 0) (λ i. f (suc i))
 
 pub mark-loud : (peak : ℤ) (flags : List Bool) → ltZ peak (pos 32760) ≡ false → 0x4C ≡ markOf peak flags
 unfolding markOf

@@ -7,11 +7,11 @@ ghost use Rattle.lines.specs.Put.{lineRoom, Within};
 mod fields;
 mod marks;
 
-use fields::put;
-use fields::put_byte;
-use fields::put_decimal;
+pub use fields::put;
+pub use fields::put_byte;
+pub use fields::put_decimal;
 use fields::put_flags;
-use fields::put_integer;
+pub use fields::put_integer;
 pub use marks::mark;
 pub use marks::peak;
 
