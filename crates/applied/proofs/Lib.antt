@@ -11,3 +11,4 @@ pub mod Synthesis
 pub mod Postfilter
 pub mod Capi
 pub mod Listing
+pub mod Report

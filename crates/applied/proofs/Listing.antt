@@ -1,10 +1,10 @@
--- Document 01's listing, computed from the definition of the whole output; and what the program's steps print of it, by `steps-output`. Assumes nothing.
+-- Document 01's listing, computed from the definitions of the whole outputs; and what the bench program's steps print of it, by `steps-output`. Assumes nothing.
 use mathlib.Core.Path.{_≡_, refl, _∙_}
 use mathlib.Core.List.{List, [], _++_, flatMap}
 use Prim.Native.Nat.{ℕ}
 use lib.Dec.{lit≤}
 use lib.ListN.{length, replicate}
-use Rattle.lists.specs.Lists.{iter, tab}
+use Rattle.lists.specs.Lists.{oneIf, iter, tab}
 use Rattle.basicop.specs.Ops.{clamp, asr, wrap, add, sub, mult, shl, L-add, L-sub, L-mult, L-shl, L-shr-r, L-deposit-h, doublings, norm-l, div-s, L-Extract, Mpy-32-16}
 use Rattle.pitch.specs.Lag.{absolute, lag-min, relative}
 use Rattle.spectral.specs.Lsp.{cosine, between, lspOf}
@@ -35,12 +35,15 @@ use Rattle.lines.specs.Lines.{spelled, decimal, integer, peakOf, anyOf, markOf,
 use Rattle.mr74.specs.Frame.{frameCall}
 use Rattle.sheets.specs.Sheets.{sheetsOf, sheetCall}
 use Rattle.bench_output.specs.Output.{answerLine, sheetLines, benchOutput}
+use Rattle.calls.specs.Calls.{runCalls}
+use Rattle.totals.specs.Totals.{retriedIn, squareSum, acceptedCount, refusedCount, retriedTotal, squareTotal, peakTotal}
+use Rattle.totals.specs.Report.{wholeSheets, sheetTraces, meanOf, meanField, reportLine, reportOutput}
 use Rattle.bench_output.proofs.Steps.{steps-output}
 use Rattle.applied.specs.Listing.{ascii, input, Listing, StepsApplied}
 
 pub listing : Listing
-unfolding flatMap iter tab clamp asr wrap add sub mult shl L-add L-sub L-mult L-shl L-shr-r L-deposit-h doublings norm-l div-s L-Extract Mpy-32-16 absolute lag-min relative cosine between lspOf raisedAt polynomial rowOf rowsOf inter6 phase start interpolated extended predicted sharpened sharpening feedback squares energy energyGain agc2 inverseTable rootScaled inverseRoot outside recursion stepNumbers someOutside someListOutside firstListOutside acc accs enhanced firstExcitation synthesisResult excitations subframeResult subframeResults coreResult firstMet stateOf coreOf postOf firstOutside frameOutcome frameTrace numerator denominator weighted residualSum residual tilts.impulse tilts.correlation tilts.tiltOf tilts.tilt preemphasised filterResult postfilterResult agc controlled words readCall recordOutcome spelled decimal integer peakOf anyOf markOf frameLine refusedLine cutLine frameCall sheetsOf sheetCall answerLine sheetLines benchOutput ascii input stateOutcome
-listing = refl
+unfolding flatMap iter tab clamp asr wrap add sub mult shl L-add L-sub L-mult L-shl L-shr-r L-deposit-h doublings norm-l div-s L-Extract Mpy-32-16 absolute lag-min relative cosine between lspOf raisedAt polynomial rowOf rowsOf inter6 phase start interpolated extended predicted sharpened sharpening feedback squares energy energyGain agc2 inverseTable rootScaled inverseRoot outside recursion stepNumbers someOutside someListOutside firstListOutside acc accs enhanced firstExcitation synthesisResult excitations subframeResult subframeResults coreResult firstMet stateOf coreOf postOf firstOutside frameOutcome frameTrace numerator denominator weighted residualSum residual tilts.impulse tilts.correlation tilts.tiltOf tilts.tilt preemphasised filterResult postfilterResult agc controlled words readCall recordOutcome spelled decimal integer peakOf anyOf markOf frameLine refusedLine cutLine frameCall sheetsOf sheetCall answerLine sheetLines benchOutput ascii input stateOutcome oneIf runCalls retriedIn squareSum acceptedCount refusedCount retriedTotal squareTotal peakTotal wholeSheets sheetTraces meanOf meanField reportLine reportOutput
+listing = record { bench = refl; report = refl }
 
 -- ---- as many bytes as there are, and no more than so many sheets
 input-length : length input ≡ 1131
@@ -61,7 +64,7 @@ none-refused = refl
 pub steps-applied : StepsApplied
 steps-applied =
     record {
-      listing = steps-output 4 input (rw input-length (lit≤ tt)) ∙ listing;
+      listing = steps-output 4 input (rw input-length (lit≤ tt)) ∙ listing .bench;
       short = steps-output 0 [] (lit≤ tt) ∙ none-refused;
       refused = steps-output 3 zeros (lit≤ tt) ∙ zeros-refused;
     }

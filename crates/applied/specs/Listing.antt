@@ -1,11 +1,12 @@
--- Document 01's listing of the bench program's input and output, whole, and `StepsOutput` (bench_output/specs/Steps.antt) applied to it and to refused
--- records. The theorems are `listing`, computed from the definition, and `steps-applied` in proofs/Listing.antt.
+-- Document 01's listing of the bench program's input and output, whole, and the shift report of that input; `StepsOutput` (bench_output/specs/Steps.antt)
+-- applied to it and to refused records. The theorems are `listing`, computed from the definitions, and `steps-applied` in proofs/Listing.antt.
 use mathlib.Core.Path.{_≡_}
 use mathlib.Core.List.{List, [], _∷_, _++_}
 use Prim.Native.Nat.{ℕ}
-use Prim.Native.Char.{Char, code}
+use Prim.Native.Char.{code}
 use Prim.Native.String.{String, [] as []ᵗ, _∷_ as _∷ᵗ_}
 use lib.ListN.{replicate}
+use Rattle.totals.specs.Report.{reportOutput}
 use Rattle.bench_output.specs.Output.{benchOutput}
 use Rattle.bench_output.specs.Steps.{programOutput}
 
@@ -25,8 +26,10 @@ input =
 abbrev pub output : List ℕ
 output = ascii "1 0000 0 -\n2 refused 2 9\n3 cut\n"
 
-abbrev pub Listing : Type 0
-Listing = benchOutput input ≡ output
+pub record Listing : Type 0 where
+  pub bench : benchOutput input ≡ output
+  -- one sheet was accepted and one refused
+  pub report : reportOutput input ≡ ascii "1 1 0 0 0\n"
 
 -- what the program's steps print
 pub record StepsApplied : Type 0 where
