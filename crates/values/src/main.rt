@@ -1,5 +1,6 @@
-// Runs document 01's values to hold through the code, the starred ones among them, and prints each with its input.
+// Runs document 01's values to hold through the code, the starred ones among them, means of peaks and shift reports, and prints each with its input.
 use libc::STDOUT_FILENO;
+use lines::LINE_ROOM;
 use pitch::Fraction;
 use pitch::PitchLag;
 
@@ -153,6 +154,51 @@ fn marks() {
     mark(-32768);
 }
 
+// of so many peaks by their sum
+fn mean_of_two(sum: i32) {
+    line(b"mean of two by their sum", sum, totals::mean(sum, 2));
+}
+
+fn means() {
+    mean_of_two(-73);
+    mean_of_two(-74);
+    mean_of_two(73);
+    mean_of_two(-1);
+    line(
+        b"mean of 65535 by their sum",
+        -2147450880,
+        totals::mean(-2147450880, 65535),
+    );
+}
+
+// the shift report of a lent input: as many bytes of document 01's listing, which has a zero record, a zero sheet, one with only LSF 9 = 16385, and a byte
+fn report_of(count: usize) {
+    let mut input = [0u8; 1131];
+    input[394] = 0x4D;
+    input[395] = 0x37;
+    input[396] = 0x01;
+    input[398] = 0x8A;
+    input[399] = 0x01;
+    input[400] = 0xC5;
+    input[784] = 0x01;
+    input[785] = 0x40;
+    let mut text = [0u8; LINE_ROOM];
+    if count <= 1131 {
+        let end = totals::report(&mut text, &input[0..count]);
+        io::write_all(STDOUT_FILENO, b"report of ");
+        io::print_decimal(STDOUT_FILENO, count as u64);
+        io::write_all(STDOUT_FILENO, b" bytes: ");
+        io::write_all(STDOUT_FILENO, &text[..end]);
+    }
+}
+
+fn reports() {
+    report_of(0);
+    report_of(402);
+    report_of(766);
+    report_of(1131);
+}
+
 fn main() {
     frequencies();
     lags();
@@ -163,4 +209,6 @@ fn main() {
     first_clamp(1);
     peaks();
     marks();
+    means();
+    reports();
 }
