@@ -15,7 +15,7 @@ use reference::{
     part,
     random::Random,
     record,
-    report::Report,
+    tally::Tally,
 };
 use std::{env, process::ExitCode};
 
@@ -124,14 +124,14 @@ fn same(lent: &mut Lent, sheet: &[u8]) -> bool {
 
 /// What the frames of a kind came to.
 #[derive(Default)]
-struct Tally {
+struct Counts {
     frames: u64,
     retried: usize,
     refused: usize,
 }
 
-impl Tally {
-    fn count(&mut self, lent: &Lent) {
+impl Counts {
+    fn add(&mut self, lent: &Lent) {
         self.frames += 1;
         if lent.code == 0 {
             self.retried += lent.retried();
@@ -140,7 +140,7 @@ impl Tally {
         }
     }
 
-    fn passed(&self, report: &mut Report, name: &str) {
+    fn passed(&self, tally: &mut Tally, name: &str) {
         let Self {
             frames,
             retried,
@@ -149,19 +149,19 @@ impl Tally {
         let text = format!(
             "{name}: {frames} frames, {retried} subframes retried, {refused} frames refused"
         );
-        report.line(true, &text);
+        tally.line(true, &text);
     }
 
-    fn differs(&self, report: &mut Report, name: &str, sheet: &[i16], state: &[u8]) {
-        report.line(false, &format!("{name}: frame {}", self.frames));
+    fn differs(&self, tally: &mut Tally, name: &str, sheet: &[i16], state: &[u8]) {
+        tally.line(false, &format!("{name}: frame {}", self.frames));
         println!("sheet {sheet:?}\nstate {:?}", words(state));
     }
 }
 
-fn chained(report: &mut Report, random: &mut Random, kind: usize, frames: u64) {
+fn chained(tally: &mut Tally, random: &mut Random, kind: usize, frames: u64) {
     let (name, turns) = KINDS[kind];
     let mut lent = Lent::new(&opening(random, kind), 0);
-    let mut tally = Tally::default();
+    let mut counts = Counts::default();
     for frame in 0..frames {
         if frame % turns == turns - 1 {
             lent.state = bytes(&opening(random, kind));
@@ -172,11 +172,11 @@ fn chained(report: &mut Report, random: &mut Random, kind: usize, frames: u64) {
         }
         let before = lent.clone();
         if !same(&mut lent, &bytes(&sheet)) {
-            return tally.differs(report, name, &sheet, &before.state);
+            return counts.differs(tally, name, &sheet, &before.state);
         }
-        tally.count(&lent);
+        counts.add(&lent);
     }
-    tally.passed(report, name);
+    counts.passed(tally, name);
 }
 
 /// An accepted call left what the source's decoder, going its own way from the indices, gives.
@@ -190,7 +190,7 @@ fn agrees(lent: &Lent, wanted: &Decoded) -> bool {
 
 /// Sheets as the source has them from random indices: its codebook's innovation, and its gain decoder's gains, whose memory
 /// runs along with the chain. A damaged sheet is refused, and the source's decoder stays where it is.
-fn by_source(report: &mut Report, random: &mut Random, frames: u64) {
+fn by_source(tally: &mut Tally, random: &mut Random, frames: u64) {
     const TURNS: u64 = 300;
     let name = "innovation and gains by the source from random indices, gaps kept";
     let start = |random: &mut Random| {
@@ -198,7 +198,7 @@ fn by_source(report: &mut Report, random: &mut Random, frames: u64) {
         (Lent::new(&state, 0), Source::new(&part(&state, 0)))
     };
     let (mut lent, mut source) = start(random);
-    let mut tally = Tally::default();
+    let mut counts = Counts::default();
     for frame in 0..frames {
         if frame % TURNS == TURNS - 1 {
             (lent, source) = start(random);
@@ -217,16 +217,16 @@ fn by_source(report: &mut Report, random: &mut Random, frames: u64) {
         let good = same(&mut lent, &bytes(&sheet))
             && (lent.code != 0 || agrees(&lent, &source.decode(&sheet, &indices)));
         if !good {
-            return tally.differs(report, name, &sheet, &before.state);
+            return counts.differs(tally, name, &sheet, &before.state);
         }
-        tally.count(&lent);
+        counts.add(&lent);
     }
-    tally.passed(report, name);
+    counts.passed(tally, name);
 }
 
 /// Runs cases and tells the first that differs.
 fn all<T: std::fmt::Debug>(
-    report: &mut Report,
+    tally: &mut Tally,
     name: &str,
     cases: impl IntoIterator<Item = T>,
     mut good: impl FnMut(&T) -> bool,
@@ -234,15 +234,15 @@ fn all<T: std::fmt::Debug>(
     let mut count = 0;
     for case in cases {
         if !good(&case) {
-            report.line(false, &format!("{name}: {case:?}"));
+            tally.line(false, &format!("{name}: {case:?}"));
             return;
         }
         count += 1;
     }
-    report.line(true, &format!("{name}: {count}"));
+    tally.line(true, &format!("{name}: {count}"));
 }
 
-fn lengths(report: &mut Report, random: &mut Random) {
+fn lengths(tally: &mut Tally, random: &mut Random) {
     let lsf = draw::spread(random);
     let mut sheet = bytes(&draw::sheet(random, lsf, Loudness::Speech));
     sheet.extend((0..400).map(|_| random.bits() as u8));
@@ -250,25 +250,25 @@ fn lengths(report: &mut Report, random: &mut Random) {
     let opening = Lent::new(&state, 0x5A);
     let cut = |vector: &mut Vec<u8>, length: usize| vector.resize(length, 0x5A);
     let whole = &sheet[..SHEET_BYTES];
-    all(report, "sheets of each length", 0..=700, |&length| {
+    all(tally, "sheets of each length", 0..=700, |&length| {
         same(&mut opening.clone(), &sheet[..length])
     });
-    all(report, "outputs of each length", 0..=700, |&length| {
+    all(tally, "outputs of each length", 0..=700, |&length| {
         let mut lent = opening.clone();
         cut(&mut lent.out, length);
         same(&mut lent, whole)
     });
-    all(report, "states of each length", 0..=800, |&length| {
+    all(tally, "states of each length", 0..=800, |&length| {
         let mut lent = opening.clone();
         cut(&mut lent.state, length);
         same(&mut lent, whole)
     });
-    all(report, "rows of each length", 0..=200, |&length| {
+    all(tally, "rows of each length", 0..=200, |&length| {
         let mut lent = opening.clone();
         cut(&mut lent.rows, length);
         same(&mut lent, whole)
     });
-    all(report, "places of each length", 0..=16, |&length| {
+    all(tally, "places of each length", 0..=16, |&length| {
         let mut lent = opening.clone();
         cut(&mut lent.places, length);
         same(&mut lent, whole)
@@ -287,7 +287,7 @@ fn lengths(report: &mut Report, random: &mut Random) {
         }
     }
     all(
-        report,
+        tally,
         "sheet, output, state, rows and places about their lengths",
         several,
         |&(length, out, state, rows, places)| {
@@ -302,7 +302,7 @@ fn lengths(report: &mut Report, random: &mut Random) {
 }
 
 /// Every number of a sheet and the two tested numbers of a state, at each value about their limits.
-fn limits(report: &mut Report, random: &mut Random) {
+fn limits(tally: &mut Tally, random: &mut Random) {
     let lsf = draw::spread(random);
     let sheet = draw::sheet(random, lsf, Loudness::Speech);
     let state = draw::state(random, 3000);
@@ -312,7 +312,7 @@ fn limits(report: &mut Report, random: &mut Random) {
     ];
     let cases = (0..SHEET).flat_map(|place| ABOUT.map(|number| (place, number)));
     all(
-        report,
+        tally,
         "a sheet's numbers about their limits",
         cases,
         |&(place, number)| {
@@ -332,7 +332,7 @@ fn limits(report: &mut Report, random: &mut Random) {
         state
     };
     all(
-        report,
+        tally,
         "sharpening and smoothed gain about their limits: frame, read, write",
         cases,
         |&(sharpening, gain)| {
@@ -347,13 +347,13 @@ fn limits(report: &mut Report, random: &mut Random) {
 }
 
 /// The places of the sheets of `examples/call.bin`, by both: two subframes are retried, and sheet 9 is refused.
-fn places(report: &mut Report) {
+fn places(tally: &mut Tally) {
     let call = examples::input("call").expect("the run is listed");
     let (record, sheets) = call.split_at(record::RECORD);
     let mut ours = Lent::new(&words(&record[..STATE_BYTES]), 0x5A);
     let mut reference = ours.clone();
     let name = "places of the sheets of examples/call.bin";
-    all(report, name, 1..=13, |&number| {
+    all(tally, name, 1..=13, |&number| {
         let sheet = &sheets[SHEET_BYTES * (number - 1)..SHEET_BYTES * number];
         let wanted = match number {
             1 => [12, 40, 40, 40],
@@ -376,29 +376,29 @@ fn writes(state: &[u8], room: usize) -> bool {
     write(state, room) == reference_write(state, room)
 }
 
-fn records(report: &mut Report, random: &mut Random) {
+fn records(tally: &mut Tally, random: &mut Random) {
     let mut long: Vec<u8> = (0..600).map(|_| random.bits() as u8).collect();
     long.extend(bytes(&draw::state(random, 32767)));
     long.extend(record::TRAILER);
     let end = long.len();
     all(
-        report,
+        tally,
         "records behind notes of each length",
         0..=end,
         |&from| reads(&long[from..], STATE_BYTES),
     );
-    all(report, "records cut at each length", 0..=end, |&to| {
+    all(tally, "records cut at each length", 0..=end, |&to| {
         reads(&long[..to], STATE_BYTES)
     });
     all(
-        report,
+        tally,
         "reads into states of each length",
         0..=800,
         |&room| reads(&long, room),
     );
     let cases = (0..8).flat_map(|place| (0..=255u8).map(move |byte| (place, byte)));
     all(
-        report,
+        tally,
         "each value of each byte of a trailer",
         cases,
         |&(place, byte)| {
@@ -407,7 +407,7 @@ fn records(report: &mut Report, random: &mut Random) {
             reads(&record, STATE_BYTES)
         },
     );
-    all(report, "records with some bytes changed", 0..20_000, |_| {
+    all(tally, "records with some bytes changed", 0..20_000, |_| {
         let mut record = long[600 - random.range(0, 600) as usize..].to_vec();
         for _ in 0..random.range(1, 4) {
             let last = record.len() as i64 - 1;
@@ -418,18 +418,18 @@ fn records(report: &mut Report, random: &mut Random) {
     });
     let body = &long[600..600 + STATE_BYTES];
     all(
-        report,
+        tally,
         "writes into records of each length",
         0..=800,
         |&room| writes(body, room),
     );
     all(
-        report,
+        tally,
         "writes of states of each length",
         0..=end,
         |&length| writes(&long[..length], record::RECORD),
     );
-    all(report, "states written and read back", 0..5_000, |_| {
+    all(tally, "states written and read back", 0..5_000, |_| {
         let limit = draw::level(random);
         let state = bytes(&draw::state(random, limit));
         let (code, written) = write(&state, record::RECORD);
@@ -446,18 +446,18 @@ fn main() -> ExitCode {
         eprintln!("differential [FRAMES [SEED]]");
         return ExitCode::FAILURE;
     };
-    let mut report = Report::default();
+    let mut tally = Tally::default();
     let mut random = Random::new(seed);
-    places(&mut report);
-    lengths(&mut report, &mut random);
-    limits(&mut report, &mut random);
-    records(&mut report, &mut random);
+    places(&mut tally);
+    lengths(&mut tally, &mut random);
+    limits(&mut tally, &mut random);
+    records(&mut tally, &mut random);
     let share = frames.div_ceil(KINDS.len() as u64);
     for kind in 0..KINDS.len() {
-        chained(&mut report, &mut random, kind, share);
+        chained(&mut tally, &mut random, kind, share);
     }
-    by_source(&mut report, &mut random, share);
-    if report.end() {
+    by_source(&mut tally, &mut random, share);
+    if tally.end() {
         ExitCode::SUCCESS
     } else {
         ExitCode::FAILURE

@@ -7,13 +7,13 @@ use crate::{
     mr74::stages,
     program,
     random::Random,
-    report::Report,
+    tally::Tally,
 };
 
 /// The frames of a chain, which begins from a drawn state.
 const CHAIN: u64 = 100;
 
-fn frames(report: &mut Report, count: u64, seed: u64) {
+fn frames(tally: &mut Tally, count: u64, seed: u64) {
     let mut random = Random::new(seed);
     let mut state = [0; STATE];
     let mut retried = 0;
@@ -31,7 +31,7 @@ fn frames(report: &mut Report, count: u64, seed: u64) {
         wanted.extend(answer.rows.as_flattened());
         wanted.extend(answer.state);
         if model::frame(&mut Trace::default(), &sheet, &state) != wanted {
-            report.line(false, &format!("frame {number} from seed {seed}"));
+            tally.line(false, &format!("frame {number} from seed {seed}"));
             println!("sheet {sheet:?}\nstate {state:?}");
             return;
         }
@@ -43,12 +43,12 @@ fn frames(report: &mut Report, count: u64, seed: u64) {
         state = answer.state;
     }
     let text = format!("{count} frames from seed {seed}, {retried} subframes retried");
-    report.line(true, &text);
+    tally.line(true, &text);
 }
 
 /// Every argument is answered alike.
 fn every<T: Copy + std::fmt::Debug>(
-    report: &mut Report,
+    tally: &mut Tally,
     name: &str,
     arguments: impl IntoIterator<Item = T>,
     mut alike: impl FnMut(T) -> bool,
@@ -56,26 +56,26 @@ fn every<T: Copy + std::fmt::Debug>(
     let mut count = 0u64;
     for argument in arguments {
         if !alike(argument) {
-            report.line(false, &format!("{name}: {argument:?}"));
+            tally.line(false, &format!("{name}: {argument:?}"));
             return;
         }
         count += 1;
     }
-    report.line(true, &format!("{name}: {count}"));
+    tally.line(true, &format!("{name}: {count}"));
 }
 
 pub fn run(count: u64, seed: u64) -> bool {
-    let mut report = Report::default();
+    let mut tally = Tally::default();
     let mut trace = Trace::default();
-    every(&mut report, "every LSF", 0..=16384, |lsf| {
+    every(&mut tally, "every LSF", 0..=16384, |lsf| {
         model::lsp(&mut trace, lsf) == stages::lsp(lsf)
     });
-    every(&mut report, "every absolute lag", 0..=255, |index| {
+    every(&mut tally, "every absolute lag", 0..=255, |index| {
         model::lag_absolute(&mut trace, index) == stages::from_absolute(index as u8)
     });
     let relative = (19..=143).flat_map(|previous| (0..=31).map(move |index| (previous, index)));
     every(
-        &mut report,
+        &mut tally,
         "every relative lag",
         relative,
         |(previous, index)| {
@@ -84,11 +84,11 @@ pub fn run(count: u64, seed: u64) -> bool {
         },
     );
     every(
-        &mut report,
+        &mut tally,
         "every argument of the inverse root",
         i32::MIN..=i32::MAX,
         |value| model::inverse_sqrt(i64::from(value)) == i64::from(stages::inverse_sqrt(value)),
     );
-    frames(&mut report, count, seed);
-    report.end()
+    frames(&mut tally, count, seed);
+    tally.end()
 }

@@ -1,39 +1,34 @@
 //! The bench program's lines, from document 01.
 
-use crate::{FRAME, SHEET, SUBFRAMES, flag, frame, record};
-use std::fmt::Write;
+use crate::sheets::{self, Frame, Sheet};
 
 pub fn lines(input: &[u8]) -> String {
-    let mut text = String::new();
-    let (first, sheets) = input.split_at(input.len().min(record::RECORD));
-    let read = record::read(first);
-    if read.refusal != 0 {
-        return format!("state refused {}\n", read.refusal);
+    match sheets::of(input) {
+        Ok(sheets) => sheets
+            .zip(1..)
+            .map(|(sheet, number)| format!("{number} {}\n", told(&sheet)))
+            .collect(),
+        Err(refusal) => record_refused(refusal),
     }
-    let mut state = read.state;
-    for (bytes, number) in sheets.chunks(2 * SHEET).zip(1..) {
-        let line = if bytes.len() < 2 * SHEET {
-            "cut".to_string()
-        } else {
-            let (pairs, _) = bytes.as_chunks::<2>();
-            let sheet: Vec<i16> = pairs.iter().map(|&pair| i16::from_le_bytes(pair)).collect();
-            let mut samples = [0; FRAME];
-            let answer = frame::frame(&sheet, &state, &mut samples);
-            state = answer.state;
-            if answer.refusal == 0 {
-                shown(answer.places.map(flag), &samples)
-            } else {
-                format!("refused {} {}", answer.refusal, answer.place)
-            }
-        };
-        writeln!(text, "{number} {line}").expect("a string takes every line");
-    }
-    text
 }
 
-fn shown(flags: [i16; SUBFRAMES], samples: &[i16; FRAME]) -> String {
+/// The one line for a record that is refused.
+pub fn record_refused(refusal: i16) -> String {
+    format!("state refused {refusal}\n")
+}
+
+fn told(sheet: &Sheet) -> String {
+    match sheet {
+        Sheet::Accepted(frame) => shown(frame),
+        Sheet::Refused { refusal, place } => format!("refused {refusal} {place}"),
+        Sheet::Cut => "cut".to_string(),
+    }
+}
+
+fn shown(frame: &Frame) -> String {
+    let flags = frame.flags();
     let digits: String = flags.iter().map(|flag| flag.to_string()).collect();
-    let peak = *samples.iter().max().expect("a frame has 160 samples");
+    let peak = frame.peak();
     let mark = if peak >= 32760 {
         'L'
     } else if flags.contains(&1) {

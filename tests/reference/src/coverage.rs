@@ -4,23 +4,23 @@ use crate::{
     SHEET, STATE,
     files::{FILES, File, Kind},
     model::Trace,
-    report::Report,
+    tally::Tally,
 };
 use std::{collections::BTreeMap, fs, path::Path};
 
 pub fn run(folder: &Path) -> bool {
-    let mut report = Report::default();
+    let mut tally = Tally::default();
     for file in &FILES {
         let bytes = fs::read(folder.join(file.name)).unwrap_or_default();
         match file.records(&bytes) {
-            Some(records) if !records.is_empty() => count(file, &records, &mut report),
-            _ => report.line(false, &format!("{}: no whole records", file.name)),
+            Some(records) if !records.is_empty() => count(file, &records, &mut tally),
+            _ => tally.line(false, &format!("{}: no whole records", file.name)),
         }
     }
-    report.end()
+    tally.end()
 }
 
-fn count(file: &File, records: &[Vec<i16>], report: &mut Report) {
+fn count(file: &File, records: &[Vec<i16>], tally: &mut Tally) {
     let name = file.name;
     let split = file.input_words();
     let mut shown: BTreeMap<(&str, i16), usize> = BTreeMap::new();
@@ -41,12 +41,12 @@ fn count(file: &File, records: &[Vec<i16>], report: &mut Report) {
     } else {
         format!("{name}: {all} records, from document 01 alone")
     };
-    report.line(agreed == all, &text);
+    tally.line(agreed == all, &text);
     for kind in (file.kinds)() {
         match kind {
             Kind::One(kind) => {
                 let count = shown.get(&(kind, 0)).copied().unwrap_or(0);
-                report.line(count > 0, &format!("{name}: {kind}: {count}"));
+                tally.line(count > 0, &format!("{name}: {kind}: {count}"));
             }
             Kind::Each(kind, numbers) => {
                 let counts = numbers.iter().map(|&number| shown.get(&(kind, number)));
@@ -54,7 +54,7 @@ fn count(file: &File, records: &[Vec<i16>], report: &mut Report) {
                 let records: usize = counts.flatten().sum();
                 let wanted = numbers.len();
                 let text = format!("{name}: {kind}: {seen} of {wanted} numbers, {records} times");
-                report.line(seen == wanted, &text);
+                tally.line(seen == wanted, &text);
             }
         }
     }
@@ -63,7 +63,7 @@ fn count(file: &File, records: &[Vec<i16>], report: &mut Report) {
             .windows(2)
             .filter(|pair| pair[0].ends_with(&pair[1][SHEET..SHEET + STATE]))
             .count();
-        report.line(
+        tally.line(
             chained > 0,
             &format!("{name}: chained to the record before: {chained}"),
         );
@@ -75,6 +75,6 @@ fn count(file: &File, records: &[Vec<i16>], report: &mut Report) {
         };
         let count = records.iter().filter(gives_away).count();
         let text = format!("{name}: fault \"{}\" given away by {count}", fault.name());
-        report.line(count > 0, &text);
+        tally.line(count > 0, &text);
     }
 }

@@ -3,7 +3,7 @@
 
 use crate::{
     files::{FILES, File},
-    report::Report,
+    tally::Tally,
 };
 use std::{fs, io, path::Path, process::Command};
 
@@ -68,7 +68,7 @@ fn rounds(program: &Path, vectors: &Path, folder: &Path) -> io::Result<Vec<usize
 
 /// `folder` is made new, and removed afterwards.
 pub fn check(program: &Path, vectors: &Path, folder: &Path) -> bool {
-    let mut report = Report::default();
+    let mut tally = Tally::default();
     let unseen = fs::create_dir_all(folder)
         .and_then(|()| program.canonicalize())
         .and_then(|program| rounds(&program, vectors, folder));
@@ -79,11 +79,11 @@ pub fn check(program: &Path, vectors: &Path, folder: &Path) -> bool {
                     "{}: each word of an answer changed, {unseen} unseen",
                     file.name
                 );
-                report.line(unseen == 0, &text);
+                tally.line(unseen == 0, &text);
             }
         }
-        Err(error) => report.line(false, &error.to_string()),
+        Err(error) => tally.line(false, &error.to_string()),
     }
     let _ = fs::remove_dir_all(folder);
-    report.end()
+    tally.end()
 }

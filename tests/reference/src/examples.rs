@@ -1,4 +1,4 @@
-//! The stored runs of `examples/`: inputs of the bench program, drawn from fixed seeds.
+//! The stored runs of `examples/`: inputs of the programs, drawn from fixed seeds.
 
 use crate::{
     FRAME, SHEET, STATE, SUBFRAMES, at,
@@ -11,7 +11,8 @@ use crate::{
 };
 use std::ops::RangeInclusive;
 
-/// A stored run: `NAME.bin` has its input, `NAME.txt` the lines.
+/// A stored run: `NAME.bin` has its input, `NAME.txt` the bench program's lines, `NAME.report.txt`
+/// the shift report's.
 pub struct Run {
     pub name: &'static str,
     pub input: fn() -> Vec<u8>,
@@ -95,7 +96,7 @@ const MARKS: [Wanted; 17] = [
 ];
 
 /// A sheet with one negative number at every place of its innovation.
-fn lowered(random: &mut Random) -> Vec<i16> {
+pub fn lowered(random: &mut Random) -> Vec<i16> {
     let mut sheet = sheet(random);
     sheet[at::INNOVATION..].fill(random.word(-8192, -1));
     sheet

@@ -39,6 +39,8 @@ pub mod program;
 pub mod random;
 pub mod record;
 pub mod report;
+pub mod sheets;
+pub mod tally;
 #[cfg(test)]
 mod tests;
 pub mod values;

@@ -3,8 +3,8 @@
 use reference::{
     agree, bench, coverage, damage, examples,
     files::{self, FILES, Field, File},
-    program,
-    report::Report,
+    program, report,
+    tally::Tally,
     values,
 };
 use std::{
@@ -27,7 +27,10 @@ reference agree FRAMES SEED
                          the second decoder against the reference: FRAMES random accepted frames,
                          every LSF, lag and argument of the inverse root
 reference bench          the bench program's lines for standard input
-reference bench PROGRAM  runs the bench program and compares its lines with these
+reference report         the shift report's line for standard input
+reference bench BENCH REPORT
+                         runs the bench program and the shift report, and compares their lines
+                         with these
 reference example NAME   the bytes of examples/NAME.bin
 reference call SHEETS    the bytes of a record and SHEETS drawn sheets";
 
@@ -53,8 +56,14 @@ fn main() -> ExitCode {
             (Ok(frames), Ok(seed)) => agree::run(frames, seed),
             _ => usage(),
         },
-        ["bench"] => bench(),
-        ["bench", program] => program::check(Path::new(program), Path::new("examples")),
+        ["bench"] => told(u64::MAX, bench::lines),
+        ["report"] => told(report::BYTES as u64, report::line),
+        ["bench", bench, report] => program::check(
+            Path::new(bench),
+            Path::new(report),
+            Path::new("examples"),
+            Path::new("target/report-input"),
+        ),
         ["example", name] => match examples::input(name) {
             Some(bytes) => put([bytes]),
             None => usage(),
@@ -97,13 +106,13 @@ fn write(folder: &Path) -> bool {
 }
 
 fn check(folder: &Path) -> bool {
-    let mut report = Report::default();
+    let mut tally = Tally::default();
     for file in &FILES {
         let wanted = file.bytes();
         match fs::read(folder.join(file.name)) {
             Ok(found) if found == wanted => {
                 let records = wanted.len() / (2 * file.record_words());
-                report.line(true, &format!("{}: {records} records", file.name));
+                tally.line(true, &format!("{}: {records} records", file.name));
             }
             Ok(found) => {
                 let same = wanted
@@ -112,12 +121,12 @@ fn check(folder: &Path) -> bool {
                     .take_while(|(a, b)| a == b)
                     .count();
                 let record = same / (2 * file.record_words());
-                report.line(
+                tally.line(
                     false,
                     &format!("{}: differs from record {record} on", file.name),
                 );
             }
-            Err(error) => report.line(false, &format!("{}: {error}", file.name)),
+            Err(error) => tally.line(false, &format!("{}: {error}", file.name)),
         }
     }
     let mut unknown = Vec::new();
@@ -134,12 +143,12 @@ fn check(folder: &Path) -> bool {
     }
     unknown.sort();
     for name in unknown {
-        report.line(
+        tally.line(
             false,
             &format!("{name}: not a file of the recorded answers"),
         );
     }
-    report.end()
+    tally.end()
 }
 
 fn show(path: &Path) -> bool {
@@ -187,12 +196,13 @@ fn line(file: &File, record: &[i16]) -> String {
     )
 }
 
-fn bench() -> bool {
+/// Prints a program's lines for standard input, of which it reads so many bytes at most.
+fn told(most: u64, lines: fn(&[u8]) -> String) -> bool {
     let mut input = Vec::new();
-    if let Err(error) = io::stdin().read_to_end(&mut input) {
+    if let Err(error) = io::stdin().take(most).read_to_end(&mut input) {
         return failed("standard input", error);
     }
-    print!("{}", bench::lines(&input));
+    print!("{}", lines(&input));
     true
 }
 

@@ -1,24 +1,22 @@
-//! Runs the bench program on inputs of every kind and compares its lines with the reference's, and
-//! draws calls for it.
+//! Runs the bench program and the shift report on inputs of every kind and compares their lines
+//! with the reference's, and draws calls for them.
+
+mod process;
+mod totals;
 
 use crate::{
-    SHEET, STATE, at, bench,
+    STATE, at, bench,
     draw::{self, Loudness},
     examples::RUNS,
     random::Random,
-    record,
-    report::Report,
+    record, report, sheets,
+    tally::Tally,
 };
-use std::{
-    collections::BTreeSet,
-    fs,
-    io::{self, Read, Write},
-    path::Path,
-    process::{Command, Stdio},
-    thread,
-};
+use process::Program;
+use std::{collections::BTreeSet, fs, path::Path};
 
-const BYTES: usize = 2 * SHEET;
+/// The bench program and the shift report.
+type Programs<'a> = [Program<'a>; 2];
 
 pub fn bytes_of(numbers: &[i16]) -> Vec<u8> {
     numbers
@@ -101,12 +99,11 @@ fn bad_records(good: &[u8]) -> Vec<Vec<u8>> {
     bad
 }
 
-/// Peak of the one sheet of an input, and whether a subframe was retried.
+/// Peak of the first frame of an input, and whether a subframe was retried.
 fn shown(input: &[u8]) -> (i16, bool) {
-    let line = bench::lines(input);
-    let fields: Vec<&str> = line.split_whitespace().collect();
-    let peak = fields[2].parse().expect("a drawn sheet is accepted");
-    (peak, fields[1].contains('1'))
+    let frames = sheets::frames(input);
+    let frame = frames.first().expect("a drawn sheet is accepted");
+    (frame.peak(), frame.flags().contains(&1))
 }
 
 /// A state and an accepted sheet, drawn from a seed.
@@ -126,7 +123,8 @@ fn negative_peak(random: &mut Random) -> Option<Vec<u8>> {
         let mut state = draw::state(random, 300);
         state[at::PAST..at::SHARPENING].fill(level);
         let input = [record_of(&state), bytes_of(&sheet)].concat();
-        if bench::lines(&input).starts_with("1 0000 -") {
+        let (peak, retried) = shown(&input);
+        if peak < 0 && !retried {
             return Some(input);
         }
     }
@@ -148,107 +146,82 @@ pub fn call(seed: u64, sheets: usize, refusals: i64) -> impl Iterator<Item = Vec
     std::iter::once(first).chain(rest)
 }
 
-/// What the program writes on an input. A program that ends early leaves the rest unread.
-fn output(program: &Path, input: &[u8]) -> io::Result<Vec<u8>> {
-    let mut child = Command::new(program)
-        .stdin(Stdio::piped())
-        .stdout(Stdio::piped())
-        .spawn()?;
-    let mut stdin = child.stdin.take().expect("standard input is piped");
-    let mut stdout = child.stdout.take().expect("standard output is piped");
-    let mut text = Vec::new();
-    thread::scope(|scope| {
-        scope.spawn(move || stdin.write_all(input));
-        stdout.read_to_end(&mut text)
-    })?;
-    if child.wait()?.success() {
-        Ok(text)
-    } else {
-        Err(io::Error::other("the program failed"))
+/// Each program writes the reference's lines on every input.
+fn compare(tally: &mut Tally, programs: &Programs, name: &str, inputs: &[Vec<u8>]) {
+    for program in programs {
+        let differs = |input: &&Vec<u8>| !program.agrees(input);
+        let different = inputs.iter().filter(differs).count();
+        let (program, all) = (program.name, inputs.len());
+        let text = format!("{program}: {name}: {all} inputs, {different} differ");
+        tally.line(different == 0 && all > 0, &text);
     }
 }
 
-/// The program's lines are the reference's on every input.
-fn compare(
-    report: &mut Report,
-    program: &Path,
-    name: &str,
-    inputs: &[Vec<u8>],
-) -> BTreeSet<String> {
-    let mut kinds = BTreeSet::new();
-    let mut different = 0;
-    for input in inputs {
-        let wanted = bench::lines(input);
-        if output(program, input).ok().as_deref() != Some(wanted.as_bytes()) {
-            different += 1;
-        }
-        kinds.extend(wanted.lines().filter_map(|line| {
-            let (_, rest) = line.split_once(' ')?;
-            rest.starts_with("refused").then(|| rest.to_string())
-        }));
-    }
-    let text = format!("{name}: {} inputs, {different} differ", inputs.len());
-    report.line(different == 0 && !inputs.is_empty(), &text);
-    kinds
+/// The refusals that the bench program tells on these inputs.
+fn refusals(inputs: &[Vec<u8>]) -> BTreeSet<String> {
+    let lines: String = inputs.iter().map(|input| bench::lines(input)).collect();
+    let rests = lines.lines().filter_map(|line| line.split_once(' '));
+    rests
+        .map(|(_, rest)| rest.to_string())
+        .filter(|rest| rest.starts_with("refused"))
+        .collect()
 }
 
 /// Every refusal that the inputs are to meet is met.
-fn all_met(report: &mut Report, met: &BTreeSet<String>, wanted: Vec<String>) {
+fn all_met(tally: &mut Tally, met: &BTreeSet<String>, wanted: Vec<String>) {
     let missing: Vec<&String> = wanted.iter().filter(|kind| !met.contains(*kind)).collect();
     let text = format!(
         "{} kinds of refusal are met, missing: {missing:?}",
         wanted.len()
     );
-    report.line(missing.is_empty(), &text);
+    tally.line(missing.is_empty(), &text);
 }
 
-fn records(report: &mut Report, program: &Path, random: &mut Random) {
+fn records(tally: &mut Tally, programs: &Programs, random: &mut Random) {
     let good = record_of(&draw::state(random, 300));
     let tail: Vec<u8> = (0..2).flat_map(|_| bytes_of(&sheet(random))).collect();
     let cuts: Vec<Vec<u8>> = (0..=good.len()).map(|n| good[..n].to_vec()).collect();
-    let mut met = compare(report, program, "a record cut at every length", &cuts);
+    compare(tally, programs, "a record cut at every length", &cuts);
     let ends: Vec<Vec<u8>> = (0..good.len()).map(|n| good[n..].to_vec()).collect();
-    met.extend(compare(
-        report,
-        program,
-        "the end of a record, every length",
-        &ends,
-    ));
+    compare(tally, programs, "the end of a record, every length", &ends);
     let behind: Vec<Vec<u8>> = (1..60).map(|n| [&good[n..], &tail].concat()).collect();
-    compare(report, program, "a short record before sheets", &behind);
+    compare(tally, programs, "a short record before sheets", &behind);
     let bad: Vec<Vec<u8>> = bad_records(&good)
         .iter()
         .map(|bytes| [&bytes[..], &tail].concat())
         .collect();
-    met.extend(compare(report, program, "bad records before sheets", &bad));
+    compare(tally, programs, "bad records before sheets", &bad);
     let wanted = (11..=17)
         .map(|number| format!("refused {number}"))
         .collect();
-    all_met(report, &met, wanted);
+    all_met(tally, &refusals(&[cuts, ends, bad].concat()), wanted);
 }
 
-fn sheets(report: &mut Report, program: &Path, random: &mut Random) {
+fn sheets(tally: &mut Tally, programs: &Programs, random: &mut Random) {
     let first = record_of(&draw::state(random, 300));
     let mut refused = first.clone();
     for bad in refused_sheets(random) {
         refused.extend(bytes_of(&bad));
         refused.extend(bytes_of(&sheet(random)));
     }
-    let met = compare(report, program, "refused sheets among others", &[refused]);
+    let refused = [refused];
+    compare(tally, programs, "refused sheets among others", &refused);
     let places = [(2, 10), (3, 4), (4, 8)];
     let wanted = places.iter().flat_map(|&(number, count)| {
         (0..count).map(move |place| format!("refused {number} {place}"))
     });
-    all_met(report, &met, wanted.collect());
+    all_met(tally, &refusals(&refused), wanted.collect());
     let two = [first, bytes_of(&sheet(random)), bytes_of(&sheet(random))].concat();
-    let cut: Vec<Vec<u8>> = (1..BYTES).map(|n| two[..two.len() - n].to_vec()).collect();
-    compare(report, program, "a last sheet cut at every length", &cut);
+    let cut: Vec<Vec<u8>> = (1..sheets::BYTES)
+        .map(|n| two[..two.len() - n].to_vec())
+        .collect();
+    compare(tally, programs, "a last sheet cut at every length", &cut);
 }
 
 /// The seed of a peak of 32761 without a retry.
 pub const LOUD_SEED: u64 = 21_810;
 
-fn marks(report: &mut Report, program: &Path, random: &mut Random) {
+fn marks(tally: &mut Tally, programs: &Programs, random: &mut Random) {
     // Seeds from a search of 1,580,000. It met no peak of 32759 without a retry.
     for (seed, peak, retried) in [
         (71, 32759, true),
@@ -259,37 +232,55 @@ fn marks(report: &mut Report, program: &Path, random: &mut Random) {
         let (state, sheet) = single(seed);
         let input = [record_of(&state), bytes_of(&sheet)].concat();
         let name = format!("peak {peak}, retried: {retried}");
-        report.line(shown(&input) == (peak, retried), &name);
-        compare(report, program, &name, &[input]);
+        tally.line(shown(&input) == (peak, retried), &name);
+        compare(tally, programs, &name, &[input]);
     }
-    if let Some(input) = negative_peak(random) {
-        compare(report, program, "a negative peak", &[input]);
-    }
+    let negative = negative_peak(random);
+    compare(tally, programs, "a negative peak", negative.as_slice());
 }
 
-/// The stored runs: the input is made again, the text has its lines, and the program writes them.
-fn stored(report: &mut Report, program: &Path, folder: &Path) {
+/// The stored runs: the input is made again, the texts have its lines, and the programs write them.
+fn stored(tally: &mut Tally, programs: &Programs, folder: &Path) {
     for run in &RUNS {
-        let kept = |end: &str| fs::read(folder.join(run.name).with_extension(end));
-        let (input, lines) = (kept("bin").unwrap_or_default(), kept("txt").ok());
+        let file = |ending: &str| folder.join(run.name).with_extension(ending);
+        let input = fs::read(file("bin")).unwrap_or_default();
         let made = input == (run.input)();
-        report.line(made, &format!("{}.bin is made again", run.name));
-        let same = lines.as_deref() == Some(bench::lines(&input).as_bytes());
-        report.line(same, &format!("{}.txt has its lines", run.name));
-        let written = lines.is_some() && output(program, &input).ok() == lines;
-        report.line(written, &format!("the program writes {}.txt", run.name));
+        tally.line(made, &format!("{}.bin is made again", run.name));
+        for program in programs {
+            let lines = fs::read_to_string(file(program.ending)).ok();
+            let name = format!("{}.{}", run.name, program.ending);
+            let same = lines.as_ref() == Some(&(program.lines)(&input));
+            tally.line(same, &format!("{name} has its lines"));
+            let written = lines.is_some() && program.output(&input).ok() == lines;
+            tally.line(written, &format!("{}: writes {name}", program.name));
+        }
     }
 }
 
-/// Runs the program, on the stored runs too.
-pub fn check(program: &Path, examples: &Path) -> bool {
-    let mut report = Report::default();
+/// Runs both programs, on the stored runs too. `scratch` is a file for inputs, made and removed.
+pub fn check(bench: &Path, report: &Path, examples: &Path, scratch: &Path) -> bool {
+    let mut tally = Tally::default();
     let mut random = Random::new(3);
-    stored(&mut report, program, examples);
-    records(&mut report, program, &mut random);
-    sheets(&mut report, program, &mut random);
-    marks(&mut report, program, &mut random);
+    let programs = [
+        Program {
+            name: "bench",
+            path: bench,
+            lines: bench::lines,
+            ending: "txt",
+        },
+        Program {
+            name: "report",
+            path: report,
+            lines: report::line,
+            ending: "report.txt",
+        },
+    ];
+    stored(&mut tally, &programs, examples);
+    records(&mut tally, &programs, &mut random);
+    sheets(&mut tally, &programs, &mut random);
+    marks(&mut tally, &programs, &mut random);
     let long: Vec<u8> = call(5, 10_000, 50).flatten().collect();
-    compare(&mut report, program, "10000 chained sheets", &[long]);
-    report.end()
+    compare(&mut tally, &programs, "10000 chained sheets", &[long]);
+    totals::check(&mut tally, &programs, scratch);
+    tally.end()
 }

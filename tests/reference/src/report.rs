@@ -1,25 +1,40 @@
-//! Lines `ok ...` and `FAILED ...`, and their sum at the end.
+//! The shift report's line, from request 2 of document 02: counts and sums over the list of sheets.
 
-#[derive(Default)]
-pub struct Report {
-    passed: usize,
-    failed: usize,
+use crate::{
+    NOWHERE, bench, record,
+    sheets::{self, Frame, Sheet},
+};
+
+/// A sheet beyond these is not read.
+pub const LIMIT: usize = 65_535;
+
+/// The longest input that is read whole.
+pub const BYTES: usize = record::RECORD + LIMIT * sheets::BYTES;
+
+pub fn line(input: &[u8]) -> String {
+    match sheets::of(input) {
+        Ok(sheets) => totals(sheets.take(LIMIT).collect()),
+        Err(refusal) => bench::record_refused(refusal),
+    }
 }
 
-impl Report {
-    pub fn line(&mut self, good: bool, text: &str) {
-        if good {
-            self.passed += 1;
-            println!("ok {text}");
-        } else {
-            self.failed += 1;
-            println!("FAILED {text}");
-        }
-    }
+/// Accepted sheets, refused sheets, retried subframes, squares of all samples, mean peak.
+fn totals(sheets: Vec<Sheet>) -> String {
+    let is_refused = |sheet: &&Sheet| matches!(sheet, Sheet::Refused { .. });
+    let refused = sheets.iter().filter(is_refused).count();
+    let frames: Vec<Frame> = sheets.into_iter().filter_map(Sheet::frame).collect();
+    let accepted = frames.len();
+    let places = frames.iter().flat_map(|frame| frame.places);
+    let retried = places.filter(|&place| place != NOWHERE).count();
+    let samples = frames.iter().flat_map(|frame| frame.samples);
+    let squares: i64 = samples.map(|sample| i64::from(sample).pow(2)).sum();
+    let peaks: Vec<i16> = frames.iter().map(Frame::peak).collect();
+    let mean = mean(&peaks).map_or("none".to_string(), |mean| mean.to_string());
+    format!("{accepted} {refused} {retried} {squares} {mean}\n")
+}
 
-    /// Prints the sum; true where nothing failed.
-    pub fn end(self) -> bool {
-        println!("{} passed, {} failed", self.passed, self.failed);
-        self.failed == 0
-    }
+/// Rounded toward minus infinity; none of no peaks.
+pub fn mean(peaks: &[i16]) -> Option<i64> {
+    let sum: i64 = peaks.iter().map(|&peak| i64::from(peak)).sum();
+    sum.checked_div_euclid(peaks.len() as i64)
 }

@@ -6,7 +6,7 @@ use crate::{
     mr74::stages,
     part,
     random::Random,
-    record, values,
+    record, report, values,
 };
 use std::{collections::BTreeSet, fs, path::PathBuf};
 
@@ -156,5 +156,21 @@ fn sheets_stand_for_indices() {
         assert_eq!(answer.rows, wanted.rows);
         assert_eq!(answer.state, wanted.state);
         state = answer.state;
+    }
+}
+
+#[test]
+fn means_are_rounded_down() {
+    for (peaks, mean) in [
+        (&[-80, 7][..], Some(-37)),
+        (&[80, -7], Some(36)),
+        (&[-1], Some(-1)),
+        (&[-1, 0, 0], Some(-1)),
+        (&[-2, -4], Some(-3)),
+        (&[32767, 32766], Some(32766)),
+        (&[-32768; 3], Some(-32768)),
+        (&[], None),
+    ] {
+        assert_eq!(report::mean(peaks), mean, "{peaks:?}");
     }
 }

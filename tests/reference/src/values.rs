@@ -4,36 +4,31 @@ use crate::{
     LSFS, NOWHERE, ROW, SHEET, SUBFRAME, bench,
     mr74::stages::{self, Lag},
     record,
-    report::Report,
+    tally::Tally,
 };
 use std::fmt::Debug;
 
-fn same<T: PartialEq + Debug>(report: &mut Report, what: &str, got: T, wanted: T) {
+fn same<T: PartialEq + Debug>(tally: &mut Tally, what: &str, got: T, wanted: T) {
     let text = if got == wanted {
         format!("{what} -> {got:?}")
     } else {
         format!("{what} -> {got:?}, document 01 has {wanted:?}")
     };
-    report.line(got == wanted, &text);
+    tally.line(got == wanted, &text);
 }
 
-fn lag(report: &mut Report, what: &str, got: Lag, wanted: Lag) {
-    same(
-        report,
-        &format!("lag (samples, thirds) {what}"),
-        got,
-        wanted,
-    );
+fn lag(tally: &mut Tally, what: &str, got: Lag, wanted: Lag) {
+    same(tally, &format!("lag (samples, thirds) {what}"), got, wanted);
 }
 
 pub fn run() -> bool {
-    let mut report = Report::default();
-    hold(&mut report);
-    listing(&mut report);
-    report.end()
+    let mut tally = Tally::default();
+    hold(&mut tally);
+    listing(&mut tally);
+    tally.end()
 }
 
-fn hold(report: &mut Report) {
+fn hold(tally: &mut Tally) {
     for (lsf, lsp) in [
         (0, 32767),
         (128, 32748),
@@ -41,7 +36,7 @@ fn hold(report: &mut Report) {
         (16383, -32768),
         (16384, -32768),
     ] {
-        same(report, &format!("LSF {lsf}"), stages::lsp(lsf), lsp);
+        same(tally, &format!("LSF {lsf}"), stages::lsp(lsf), lsp);
     }
 
     for (index, wanted) in [
@@ -51,12 +46,12 @@ fn hold(report: &mut Report) {
         (255, (143, 0)),
     ] {
         let what = format!("of index {index}");
-        lag(report, &what, stages::from_absolute(index), wanted);
+        lag(tally, &what, stages::from_absolute(index), wanted);
     }
     for (previous, index, wanted) in [(143, 31, (144, -1)), (19, 0, (19, 1))] {
         let got = stages::from_relative(index, previous).expect("the index is inside 0..=31");
         lag(
-            report,
+            tally,
             &format!("after {previous}, of index {index}"),
             got,
             wanted,
@@ -65,12 +60,12 @@ fn hold(report: &mut Report) {
 
     for (value, wanted) in [(4096, 1), (-4096, 0), (-4097, -1), (2147483647, 0)] {
         let got = stages::rounded_coefficient(value);
-        same(report, &format!("coefficient {value}"), got, wanted);
+        same(tally, &format!("coefficient {value}"), got, wanted);
     }
 
     for (value, wanted) in [(1, 1073709056), (2, 759234560), (0, 1073741823)] {
         let got = stages::inverse_sqrt(value);
-        same(report, &format!("inverse root {value}"), got, wanted);
+        same(tally, &format!("inverse root {value}"), got, wanted);
     }
 
     for (sample, wanted) in [(-32768, 134217728), (-32767, 134209536)] {
@@ -78,7 +73,7 @@ fn hold(report: &mut Report) {
             let mut samples = [0; SUBFRAME];
             samples[place] = sample;
             let what = format!("energy of {sample} at {place} among zeros");
-            same(report, &what, stages::energy(&samples), wanted);
+            same(tally, &what, stages::energy(&samples), wanted);
         }
     }
 
@@ -89,11 +84,12 @@ fn hold(report: &mut Report) {
         (excitation[0], excitation[1]) = (32767, second);
         let got = stages::preview(&row, &[0; LSFS], &excitation).place;
         let what = format!("synthesis, row 4096 -4096, excitation 32767 {second}: place");
-        same(report, &what, got, wanted);
+        same(tally, &what, got, wanted);
     }
 }
 
-fn listing(report: &mut Report) {
+/// Input of document 01's listing.
+pub fn listing_input() -> Vec<u8> {
     let mut input = vec![0; record::BODY];
     input.extend([0x4D, 0x37, 0x01, 0x00, 0x8A, 0x01, 0xC5, 0x00]);
     input.extend([0; 2 * SHEET]);
@@ -101,9 +97,13 @@ fn listing(report: &mut Report) {
     refused[18..20].copy_from_slice(&16385i16.to_le_bytes());
     input.extend(refused);
     input.push(0);
-    let got = bench::lines(&input);
+    input
+}
+
+fn listing(tally: &mut Tally) {
+    let got = bench::lines(&listing_input());
     for (line, wanted) in got.lines().zip(["1 0000 0 -", "2 refused 2 9", "3 cut"]) {
-        same(report, "the bench program's listing", line, wanted);
+        same(tally, "the bench program's listing", line, wanted);
     }
-    same(report, "lines of the listing", got.lines().count(), 3);
+    same(tally, "lines of the listing", got.lines().count(), 3);
 }
