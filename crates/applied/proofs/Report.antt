@@ -1,10 +1,12 @@
 -- The theorems of the shift report at the inputs and calls of specs/Report.antt; totals and lines are computed from the definition. Assumes nothing.
-use mathlib.Core.Path.{_≡_, refl, ap, _∙_, subst}
-use mathlib.Core.List.{[], _∷_, _++_}
-use Prim.Native.Nat.{_+_, _*_, _≤_}
+use mathlib.Core.Path.{_≡_, refl, sym, ap, _∙_, subst}
+use mathlib.Core.List.{List, [], _∷_, _++_}
+use Prim.Native.Nat.{ℕ, _+_, _*_, _≤_}
 use native.Mathlib.Omega.{arith}
 use lib.Dec.{lit≤, lit<}
 use lib.IntN.{ℤ, pos, _+ℤ_, _*ℤ_}
+use lib.ListN.{length, length-append}
+use lib.Seq.{take-at}
 use lib.Signed.{_≤ℤ_, _<ℤ_}
 use Rattle.lists.specs.Lists.{oneIf, minus}
 use Rattle.outcome.specs.Checks.{firstMet, firstOutside}
@@ -60,6 +62,10 @@ one-accepted : acceptedCount (runCalls silent calls) ≡ 1
 unfolding acceptedCount runCalls oneIf frameTrace frameOutcome firstMet
 one-accepted = ap (λ (e : Seen). oneIf (e .accepted) + 0) (example .call)
 
+-- what is not read may be cut off
+unread-behind : (sheets more : List ℕ) → length sheets ≡ 23854740 → reportOutput (recordAlone ++ sheets ++ more) ≡ reportOutput (recordAlone ++ sheets)
+unread-behind sheets more e = sym (unread (recordAlone ++ sheets ++ more)) ∙ ap reportOutput (take-at (recordAlone ++ sheets) more 23855142 (omega (arith, length-append recordAlone sheets, e)))
+
 pub report-applied : ReportApplied
 report-applied =
     let b = widths.totals-bounded silent calls (example .well-formed) in
@@ -70,7 +76,7 @@ report-applied =
       listing = steps.steps-report input ∙ listing .report;
       alone = steps.steps-report recordAlone ∙ alone-is;
       short = steps.steps-report [] ∙ none-refused;
-      unread = unread input ∙ listing .report;
+      unread = unread-behind;
       mean = mean-is;
       floor = subst (λ (m : ℤ). ((m *ℤ pos 2) ≤ℤ minus 73) × (minus 73 <ℤ ((m +ℤ pos 1) *ℤ pos 2))) mean-is (mean-floor (minus 73) 2 (lit< tt));
       retried = omega (arith, b .retried, one-accepted);

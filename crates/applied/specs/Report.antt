@@ -4,7 +4,7 @@ use mathlib.Core.Path.{_≡_}
 use mathlib.Core.List.{List, [], _∷_, _++_}
 use Prim.Native.Nat.{ℕ, _<_, _≤_}
 use lib.IntN.{ℤ, pos, natAbs}
-use lib.ListN.{take, replicate}
+use lib.ListN.{length, replicate}
 use lib.Signed.{_≤ℤ_, _<ℤ_}
 use Rattle.lists.specs.Lists.{minus}
 use Rattle.outcome.specs.declared.Outcome.{Outcome}
@@ -60,8 +60,8 @@ pub record ReportApplied : Type 0 where
   pub listing : programReport input ≡ ascii "1 1 0 0 0\n"
   pub alone : programReport recordAlone ≡ ascii "0 0 0 0 none\n"
   pub short : programReport [] ≡ ascii "state refused 11\n"
-  -- Unread: 402 + 65,535 × 364 bytes
-  pub unread : reportOutput (take 23855142 input) ≡ ascii "1 1 0 0 0\n"
+  -- Unread: whatever comes behind a record and 65,535 × 364 bytes
+  pub unread : (sheets more : List ℕ) → length sheets ≡ 23854740 → reportOutput (recordAlone ++ sheets ++ more) ≡ reportOutput (recordAlone ++ sheets)
   -- MeanFloor: twice the mean of -80 and 7 is at most their sum, and twice one more is above it
   pub mean : meanOf (minus 73) 2 ≡ minus 37
   pub floor : (minus 74 ≤ℤ minus 73) × (minus 73 <ℤ minus 72)

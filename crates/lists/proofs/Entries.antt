@@ -4,10 +4,10 @@ use mathlib.Core.Path.{_≡_, refl, sym, ap, _∙_}
 use mathlib.Core.List.{List, [], _∷_, _++_, map}
 use mathlib.Core.Logic.{⊎-elim}
 use native.Mathlib.Numerals.{add-one}
-use native.Mathlib.Nat.{add-comm, not-suc-le-zero, le-of-suc-le-suc, eq-or-lt-of-le}
+use native.Mathlib.Nat.{zero-add, suc-add, add-comm, not-suc-le-zero, le-of-suc-le-suc, eq-or-lt-of-le}
 use native.Mathlib.Omega.{arith}
 use lib.ListN.{length, take, drop, getD, length-append, length-drop, List·getD-append}
-use lib.Seq.{getD-at, getD-drop, getD-take, getD-append-add, length-take-le, take-all}
+use lib.Seq.{getD-at, getD-drop, getD-take, getD-append-add, length-take-le, take-all, take-nil}
 use lib.IntN.{ℤ, pos}
 use Rattle.lists.specs.Lists.{at, tab, pairwise, Every}
 
@@ -130,3 +130,9 @@ stretch-at xs k n i h = sym (getD-take n (drop k xs) i (pos 0) h ∙ getD-drop k
 -- of a list of k + n, those from number k on
 pub stretch-end : {A : Type 0} (xs : List A) (k n : ℕ) → length xs ≡ k + n → take n (drop k xs) ≡ drop k xs
 stretch-end xs k n l = take-all n (drop k xs) (rw (length-drop k xs) (omega (arith, l)))
+
+-- the same, of a list that is cut after them
+pub stretch-taken : {A : Type 0} (k n : ℕ) (xs : List A) → drop k (take (k + n) xs) ≡ take n (drop k xs)
+stretch-taken zero n xs = ap (λ (m : ℕ). take m xs) (zero-add n)
+stretch-taken (suc k) n [] = ap (drop (suc k)) (take-nil (suc k + n)) ∙ sym (take-nil n)
+stretch-taken (suc k) n (x ∷ xs) = ap (λ (m : ℕ). drop (suc k) (take m (x ∷ xs))) (suc-add k n) ∙ stretch-taken k n xs

@@ -6,8 +6,9 @@ use mathlib.Core.List.{List, _∷_}
 use native.Mathlib.Omega.{arith}
 use borrow.Author.Tests.{ltb-true, ltb-false}
 use lib.Dec.{ltb, lit≤}
-use lib.ListN.{length, take, drop, length-take, drop-of-length-le}
-use lib.Seq.{take-all, take-take, take-add, take-nil, drop-at, length-take-le}
+use lib.ListN.{length, take, drop, length-take}
+use lib.Seq.{take-all, take-take}
+use Rattle.lists.proofs.Entries.{stretch-taken}
 use Rattle.state.specs.declared.State.{State}
 use Rattle.outcome.specs.Outcome.{numberOf, isAccepted}
 use Rattle.record.specs.declared.Answer.{Answer}
@@ -19,13 +20,6 @@ use Rattle.lines.specs.Lines.{stateLine}
 use Rattle.totals.specs.Totals.{totalsOf}
 use Rattle.totals.specs.Report.{callOf, sheetTraces, reportLine, reportOutput, Unread}
 use Rattle.totals.proofs.Steps.{traces-none, traces-more}
-
-drop-take : (n m : ℕ) (xs : List ℕ) → drop n (take (n + m) xs) ≡ take m (drop n xs)
-drop-take n m xs =
-    decided (ltb (length xs) n)
-    (λ t. let l = ltb-true (length xs) n t in
-    drop-of-length-le (take (n + m) xs) {i = n} (omega (arith, length-take (n + m) xs, l)) ∙ sym (ap (take m) (drop-of-length-le xs {i = n} (omega (arith, l))) ∙ take-nil m))
-    (λ t. ap (drop n) (take-add n m xs) ∙ drop-at (take n xs) (take m (drop n xs)) n (length-take-le n xs (ltb-false (length xs) n t)))
 
 -- k sheets and no more
 traces-unread : (k : ℕ) (s : State) (bytes : List ℕ) → sheetTraces k s (take (364 * k) bytes) ≡ sheetTraces k s bytes
@@ -40,7 +34,7 @@ traces-unread (suc k) s bytes =
     more l e =
         let n : 364 * suc k ≡ 364 + 364 * k = omega arith in
         let front : take 364 (take (364 * suc k) bytes) ≡ take 364 bytes = take-take 364 (364 * suc k) bytes (omega arith) in
-        let behind : drop 364 (take (364 * suc k) bytes) ≡ take (364 * k) (drop 364 bytes) = ap (λ (j : ℕ). drop 364 (take j bytes)) n ∙ drop-take 364 (364 * k) bytes in
+        let behind : drop 364 (take (364 * suc k) bytes) ≡ take (364 * k) (drop 364 bytes) = ap (λ (j : ℕ). drop 364 (take j bytes)) n ∙ stretch-taken 364 (364 * k) bytes in
         traces-more k s (take (364 * suc k) bytes) (omega (arith, length-take (364 * suc k) bytes, l))
         ∙ ap (λ (b : List ℕ). traceOf s (callOf b) ∷ sheetTraces k (nextState s (callOf b)) (drop 364 (take (364 * suc k) bytes))) front
         ∙ ap (λ (b : List ℕ). traceOf s (callOf (take 364 bytes)) ∷ sheetTraces k (nextState s (callOf (take 364 bytes))) b) behind
@@ -54,5 +48,5 @@ pub unread : Unread
 unfolding reportOutput outputBy
 unread input =
     ap (λ (bytes : List ℕ). outputBy (readCall bytes .answer) (drop 402 (take 23855142 input))) (take-take 402 23855142 input (lit≤ tt))
-    ∙ ap (outputBy (readCall (take 402 input) .answer)) (drop-take 402 23854740 input)
+    ∙ ap (outputBy (readCall (take 402 input) .answer)) (stretch-taken 402 23854740 input)
     ∙ ap (λ (ts : List Trace). cond (isAccepted (readCall (take 402 input) .answer .outcome)) (reportLine (totalsOf ts)) (stateLine (numberOf (readCall (take 402 input) .answer .outcome)))) (traces-unread 65535 (readCall (take 402 input) .answer .state) (drop 402 input))
