@@ -36,8 +36,8 @@ use Rattle.mr74.specs.Frame.{frameCall}
 use Rattle.sheets.specs.Sheets.{sheetsOf, sheetCall}
 use Rattle.bench_output.specs.Output.{answerLine, sheetLines, benchOutput}
 use Rattle.calls.specs.Calls.{runCalls}
-use Rattle.totals.specs.Totals.{retriedIn, squareSum, acceptedCount, refusedCount, retriedTotal, squareTotal, peakTotal}
-use Rattle.totals.specs.Report.{wholeSheets, sheetTraces, meanOf, meanField, reportLine, reportOutput}
+use Rattle.shift_report.specs.Totals.{retriedIn, squareSum, acceptedCount, refusedCount, retriedTotal, squareTotal, peakTotal}
+use Rattle.shift_report.specs.Report.{wholeSheets, sheetTraces, meanOf, meanField, reportLine, reportOutput}
 use Rattle.bench_output.proofs.Steps.{steps-output}
 use Rattle.applied.specs.Listing.{ascii, input, Listing, StepsApplied}
 

@@ -20,12 +20,12 @@ use Rattle.calls.specs.Calls as calls
 use Rattle.calls.specs.Calls.{runCalls}
 use Rattle.lines.specs.Lines.{spelled, decimal, integer, peakOf, stateLine}
 use Rattle.sheets.specs.Sheets.{sheetsOf}
-use Rattle.totals.specs.Totals.{retriedIn, squareSum, acceptedCount, refusedCount, retriedTotal, squareTotal, peakTotal, totalsOf}
-use Rattle.totals.specs.Report.{callOf, wholeSheets, sheetTraces, meanOf, meanField, reportLine, reportOutput}
-use Rattle.totals.proofs.Means.{mean-floor}
-use Rattle.totals.proofs.Unread.{unread}
-use Rattle.totals.proofs.Steps as steps
-use Rattle.totals.proofs.Widths as widths
+use Rattle.shift_report.specs.Totals.{retriedIn, squareSum, acceptedCount, refusedCount, retriedTotal, squareTotal, peakTotal, totalsOf}
+use Rattle.shift_report.specs.Report.{callOf, wholeSheets, sheetTraces, meanOf, meanField, reportLine, reportOutput}
+use Rattle.shift_report.proofs.Means.{mean-floor}
+use Rattle.shift_report.proofs.Unread.{unread}
+use Rattle.shift_report.proofs.Steps as steps
+use Rattle.shift_report.proofs.Widths as widths
 use Rattle.applied.specs.Examples.{silent, call, calls, Seen}
 use Rattle.applied.specs.Listing.{ascii, input}
 use Rattle.applied.specs.Report.{two, three, expected, recordAlone, badSheet, ReportApplied}

@@ -6,7 +6,7 @@ use Prim.Native.Nat.{ℕ}
 use Prim.Native.Char.{code}
 use Prim.Native.String.{String, [] as []ᵗ, _∷_ as _∷ᵗ_}
 use lib.ListN.{replicate}
-use Rattle.totals.specs.Report.{reportOutput}
+use Rattle.shift_report.specs.Report.{reportOutput}
 use Rattle.bench_output.specs.Output.{benchOutput}
 use Rattle.bench_output.specs.Steps.{programOutput}
 

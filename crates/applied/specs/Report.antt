@@ -1,4 +1,4 @@
--- The theorems of the shift report (totals/specs/Report.antt, Steps.antt) applied to inputs, lists of calls and a sum; and the totals and the line of
+-- The theorems of the shift report (shift_report/specs/Report.antt, Steps.antt) applied to inputs, lists of calls and a sum; and the totals and the line of
 -- three calls, computed. The theorem is `report-applied` in proofs/Report.antt.
 use mathlib.Core.Path.{_≡_}
 use mathlib.Core.List.{List, [], _∷_, _++_}
@@ -11,10 +11,10 @@ use Rattle.outcome.specs.declared.Outcome.{Outcome}
 use Rattle.outcome.specs.declared.Outcome.the-variants.{Accepted, SheetLength}
 use Rattle.mr74.specs.Frame.{Trace}
 use Rattle.calls.specs.Calls.{runCalls}
-use Rattle.totals.specs.declared.Totals.{Totals}
-use Rattle.totals.specs.Totals.{totalsOf}
-use Rattle.totals.specs.Report.{meanOf, reportLine, reportOutput}
-use Rattle.totals.specs.Steps.{stepOf, programReport}
+use Rattle.shift_report.specs.declared.Totals.{Totals}
+use Rattle.shift_report.specs.Totals.{totalsOf}
+use Rattle.shift_report.specs.Report.{meanOf, reportLine, reportOutput}
+use Rattle.shift_report.specs.Steps.{stepOf, programReport}
 use Rattle.applied.specs.Examples.{silent, calls, emptyTrace}
 use Rattle.applied.specs.Listing.{ascii, input}
 

@@ -3,15 +3,15 @@ ghost use mathlib.Core.Path.{_≡_};
 ghost use Prim.Native.Nat.{_+_, _≤_};
 ghost use lib.ListN.{length};
 ghost use Rattle.lines.specs.Put.{lineRoom, Within};
-ghost use Rattle.totals.specs.Steps.{Bounded};
-ghost use Rattle.totals.specs.Inner.{sheetsCounted, OneMore};
+ghost use Rattle.shift_report.specs.Steps.{sheetsCounted, Bounded};
+ghost use Rattle.totals.specs.Inner.{OneMore};
 use libc::STDOUT_FILENO;
 use lines::LINE_ROOM;
 use sheets::SHEET_BYTES;
+use shift_report::Totals;
+use shift_report::TotalsStep;
 use state::State;
 use totals::SHEET_LIMIT;
-use totals::Totals;
-use totals::TotalsStep;
 
 // Reads what comes of a sheet, and takes the step on it.
 fn serve_sheet(totals: Totals, state: State) -> TotalsStep

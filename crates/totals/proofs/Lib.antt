@@ -1,13 +1,6 @@
--- Plus: totals of one list after another. Squares: squares of 16-bit numbers, and their sum. Shares: what one call adds. Bounds: how large the sums can be.
--- Steps: the steps of any input come to the whole report. Runs: a run over lent bytes. Widths: the totals of any list of calls. Unread: what is not read.
--- Means: the mean of a sum. Lines: the report's line, field by field.
-pub mod Plus
+-- Squares: a square as the code takes it, and their sum as it folds it. Means: the mean by a division of natural numbers. Adding: the sums with one call more.
+-- Runs: a run over lent bytes.
 pub mod Squares
-pub mod Shares
-pub mod Bounds
 pub mod Means
-pub mod Lines
-pub mod Steps
+pub mod Adding
 pub mod Runs
-pub mod Widths
-pub mod Unread

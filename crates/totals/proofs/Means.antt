@@ -1,32 +1,15 @@
--- The mean of numbers by their sum, rounded toward minus infinity: what that says, and how it is worked out. Assumes nothing.
+-- The mean as the code works it out, by a division of natural numbers. Assumes nothing.
 use mathlib.Core.Path.{_≡_, refl, ap, _∙_}
 use Prim.Native.Nat.{ℕ, _/_}
-use native.Mathlib.Nat.{div-le-self, div-mul-le-self, lt-div-mul-add}
-use lib.IntN.{ℤ, pos, negsuc, natAbs, _+ℤ_, _-ℤ_, _*ℤ_, +ℤ-one, sucℤ-*ℤ}
+use native.Mathlib.Nat.{div-le-self}
+use lib.IntN.{ℤ, pos, negsuc, natAbs, _-ℤ_}
 use lib.Signed.{_≤ℤ_, _<ℤ_}
 use mir.Syntax.{Width}
 use mir.Val.{SFits}
-use Rattle.basicop.proofs.Ints.{arithℤ, sfits-by, add-is, sub-ℤ-is, mul-is}
-use Rattle.totals.specs.Report.{meanOf, MeanFloor}
+use Rattle.basicop.proofs.Ints.{arithℤ, sfits-by, sub-ℤ-is}
+use Rattle.shift_report.specs.Report.{meanOf}
 
--- ---- n times the mean is at most the sum, and n times one more is above it
-one-more : (m : ℤ) (n : ℕ) → (m +ℤ pos 1) *ℤ pos n ≡ m *ℤ pos n +ℤ pos n
-one-more m n = ap (λ (z : ℤ). z *ℤ pos n) (+ℤ-one m) ∙ sucℤ-*ℤ m (pos n)
-
-pub mean-floor : MeanFloor
-unfolding meanOf
-mean-floor (pos a) n h =
-    let m = pos (a / n) in (
-      omega (arithℤ, mul-is m (pos n), div-mul-le-self a n),
-      rw (one-more m n) (omega (arithℤ, add-is (m *ℤ pos n) (pos n), mul-is m (pos n), lt-div-mul-add {a = a} h)),
-    )
-mean-floor (negsuc a) n h =
-    let m = negsuc (a / n) in (
-      omega (arithℤ, mul-is m (pos n), lt-div-mul-add {a = a} h),
-      rw (one-more m n) (omega (arithℤ, add-is (m *ℤ pos n) (pos n), mul-is m (pos n), div-mul-le-self a n)),
-    )
-
--- ---- by a division of natural numbers: the quotient of the sum; below zero -1 - q, with q the quotient of -1 - sum
+-- ---- the quotient of the sum; below zero -1 - q, with q the quotient of -1 - sum
 abbrev pub flipped : ℤ → ℤ
 flipped z = negsuc 0 -ℤ z
 

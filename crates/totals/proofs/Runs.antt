@@ -11,15 +11,14 @@ use lib.ListN.{length, take, drop, length-take, length-drop, drop-of-length-le}
 use lib.Seq.{take-all, drop-drop}
 use Rattle.state.specs.declared.State.{State}
 use Rattle.calls.proofs.Calls.{decided}
-use Rattle.totals.specs.declared.Totals.{Totals}
-use Rattle.totals.specs.declared.TotalsStep.{TotalsStep}
-use Rattle.totals.specs.Totals.{totalsOf}
-use Rattle.totals.specs.Report.{sheetTraces}
-use Rattle.totals.specs.Steps.{Bounded, totalsStep, stepOf, loopTotals}
-use Rattle.totals.specs.Inner.{sheetsCounted}
-use Rattle.totals.proofs.Plus.{counts}
-use Rattle.totals.proofs.Bounds.{bounded-zeros}
-use Rattle.totals.proofs.Steps.{added-none, added-whole, loop-step, loop-totals}
+use Rattle.shift_report.specs.declared.Totals.{Totals}
+use Rattle.shift_report.specs.declared.TotalsStep.{TotalsStep}
+use Rattle.shift_report.specs.Totals.{totalsOf}
+use Rattle.shift_report.specs.Report.{sheetTraces}
+use Rattle.shift_report.specs.Steps.{sheetsCounted, Bounded, totalsStep, stepOf, loopTotals}
+use Rattle.shift_report.proofs.Plus.{counts}
+use Rattle.shift_report.proofs.Bounds.{bounded-zeros}
+use Rattle.shift_report.proofs.Steps.{added-none, added-whole, loop-step, loop-totals}
 
 pub record Running (bytes : List ℕ) (first : State) (sums : Totals) (s : State) (at number : ℕ) : Type 0 where
   pub within : at ≤ length bytes

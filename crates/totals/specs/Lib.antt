@@ -1,4 +1,1 @@
-pub mod Totals
-pub mod Report
-pub mod Steps
 pub mod Inner

@@ -1,13 +1,13 @@
-// The shift report: the totals of the calls of a record and sheets, and their line.
+// The code of the shift report: running sums over the sheets of a call, the step that adds one, and the line.
 ghost use mathlib.Core.Path.{_≡_};
 ghost use Prim.Native.Nat.{_+_, _≤_, min};
 ghost use lib.ListN.{length, take};
 ghost use Rattle.lines.specs.Put.{lineRoom, Within};
 ghost use Rattle.sheets.specs.Sheets.{recordBytes};
-ghost use Rattle.totals.specs.Totals.{totalsOf};
-ghost use Rattle.totals.specs.Report.{sheetLimit, sheetTraces, reportOutput};
-ghost use Rattle.totals.specs.Steps.{Bounded, totalsStep, stepOf};
-ghost use Rattle.totals.specs.Inner.{sheetsCounted, OneMore};
+ghost use Rattle.shift_report.specs.Totals.{totalsOf};
+ghost use Rattle.shift_report.specs.Report.{sheetLimit, sheetTraces, reportOutput};
+ghost use Rattle.shift_report.specs.Steps.{sheetsCounted, Bounded, totalsStep, stepOf};
+ghost use Rattle.totals.specs.Inner.{OneMore};
 
 mod line;
 mod sums;
@@ -16,28 +16,14 @@ pub use line::mean;
 pub use line::report_line;
 use sheets::RECORD_BYTES;
 use sheets::SHEET_BYTES;
+use shift_report::Totals;
+use shift_report::TotalsStep;
 use state::State;
 pub use sums::add;
 pub use sums::zeros;
 
 // At most so many sheets are read, of either verdict.
 pub const SHEET_LIMIT: u64 = 65_535;
-
-// Accepted and refused sheets; of the accepted ones retried subframes, squares of the samples, and peaks.
-pub struct Totals {
-    pub accepted: u64,
-    pub refused: u64,
-    pub retried: u64,
-    pub squares: u64,
-    pub peaks: i32,
-}
-
-// The sums for the next sheet, the state for it, and whether there is a next step.
-pub struct TotalsStep {
-    pub totals: Totals,
-    pub next: State,
-    pub more: bool,
-}
 
 // The step of what was read of a sheet: all of it is added; some of it, or nothing, ends the run.
 pub fn step(totals: Totals, bytes: &[u8], state: State) -> TotalsStep

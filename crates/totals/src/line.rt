@@ -5,8 +5,8 @@ ghost use lib.ListN.{length, take};
 ghost use mathlib.Core.List.{[]};
 ghost use Rattle.lines.specs.Lines.{decimal, field};
 ghost use Rattle.lines.specs.Put.{lineRoom, Put, Within};
-ghost use Rattle.totals.specs.Report.{meanOf, meanField, reportLine};
-use super::Totals;
+ghost use Rattle.shift_report.specs.Report.{meanOf, meanField, reportLine};
+use shift_report::Totals;
 
 // The mean of so many numbers by their sum, rounded toward minus infinity.
 pub fn mean(sum: i32, count: u64) -> i32

@@ -3,12 +3,12 @@ ghost use mathlib.Core.Path.{_≡_};
 ghost use mathlib.Core.List.{[]};
 ghost use Prim.Native.Nat.{_≤_, _^_};
 ghost use Rattle.lists.specs.Lists.{oneIf};
-ghost use Rattle.totals.specs.Totals.{retriedIn, square, squareSum, totalsOf};
+ghost use Rattle.shift_report.specs.Totals.{retriedIn, square, squareSum, totalsOf};
 ghost use Rattle.totals.specs.Inner.{Adds, OneMore};
-ghost use Rattle.totals.specs.Steps.{Bounded};
-use super::Totals;
+ghost use Rattle.shift_report.specs.Steps.{Bounded};
 use mr74::SAMPLES;
 use outcome::Outcome;
+use shift_report::Totals;
 
 // The sums of no sheet.
 pub fn zeros() -> Totals

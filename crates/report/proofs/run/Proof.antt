@@ -3,10 +3,9 @@ use Prim.Native.Nat.{_-_, _≤_}
 use mathlib.Core.List.{[]}
 use native.Mathlib.Omega.{arith}
 use borrow.Author.Needs.{needs}
-use Rattle.totals.specs.Steps.{Bounded}
-use Rattle.totals.specs.Inner.{sheetsCounted}
-use Rattle.totals.proofs.Plus.{counts}
-use Rattle.totals.proofs.Bounds.{bounded-zeros}
+use Rattle.shift_report.specs.Steps.{sheetsCounted, Bounded}
+use Rattle.shift_report.proofs.Plus.{counts}
+use Rattle.shift_report.proofs.Bounds.{bounded-zeros}
 use Rattle.report.proofs.run.Statement.{statement}
 use Rattle.report.proofs.run.Tie as tie
 

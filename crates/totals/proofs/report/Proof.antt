@@ -5,10 +5,10 @@ use mathlib.Core.List.{List}
 use borrow.Author.Needs.{needs}
 use lib.ListN.{take}
 use Rattle.sheets.specs.Sheets.{openingStep}
-use Rattle.totals.specs.Totals.{totalsOf}
-use Rattle.totals.specs.Report.{sheetTraces, reportLine}
+use Rattle.shift_report.specs.Totals.{totalsOf}
+use Rattle.shift_report.specs.Report.{sheetTraces, reportLine}
 use Rattle.totals.proofs.Runs.{front-is, behind-is}
-use Rattle.totals.proofs.Steps.{report-more, report-end}
+use Rattle.shift_report.proofs.Steps.{report-more, report-end}
 use Rattle.totals.proofs.report.Statement.{statement}
 use Rattle.totals.proofs.report.Tie as tie
 

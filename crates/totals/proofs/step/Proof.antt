@@ -2,8 +2,9 @@
 use borrow.Author.Needs.{needs}
 use mathlib.Core.Path.{sym}
 use mathlib.Core.Bool.{true, false}
-use Rattle.totals.specs.Steps.{totalsStep}
-use Rattle.totals.proofs.Steps.{added-none, added-call, step-counted}
+use Rattle.shift_report.specs.Steps.{totalsStep}
+use Rattle.shift_report.proofs.Steps.{added-none}
+use Rattle.totals.proofs.Adding.{added-call, step-counted}
 use Rattle.totals.proofs.step.Statement.{statement}
 use Rattle.totals.proofs.step.Tie as tie
 

@@ -6,8 +6,8 @@ use lib.IntN.{ℤ}
 use mir.Syntax.{w32}
 use mir.Facts.{toZ-ofZ}
 use Rattle.lists.proofs.Signed.{back}
-use Rattle.totals.specs.Report.{meanOf}
-use Rattle.totals.proofs.Lines.{none-put, mean-put}
+use Rattle.shift_report.specs.Report.{meanOf}
+use Rattle.shift_report.proofs.Lines.{none-put, mean-put}
 use Rattle.totals.proofs.line.put_mean.Statement.{statement}
 use Rattle.totals.proofs.line.put_mean.Tie as tie
 

@@ -2,7 +2,7 @@
 use borrow.Author.Needs.{needs}
 use mir.Syntax.{w32}
 use Rattle.lists.proofs.Signed.{back}
-use Rattle.totals.proofs.Lines.{report-laid}
+use Rattle.shift_report.proofs.Lines.{report-laid}
 use Rattle.totals.proofs.line.report_line.Statement.{statement}
 use Rattle.totals.proofs.line.report_line.Tie as tie
 

@@ -13,11 +13,11 @@ use Rattle.basicop.specs.Words.{Words}
 use Rattle.basicop.proofs.Range.{natAbs-add}
 use Rattle.lists.proofs.Signed.{back, entry-fits}
 use Rattle.lines.specs.Lines.{peakOf}
-use Rattle.totals.specs.declared.Totals.{Totals}
+use Rattle.shift_report.specs.declared.Totals.{Totals}
 use Rattle.totals.specs.Inner.{OneMore}
-use Rattle.totals.proofs.Plus.{made}
-use Rattle.totals.proofs.Shares.{plus-accepted, plus-refused}
-use Rattle.totals.proofs.Bounds.{retried-most, squares-of-frame, peak-of-frame, added, peaks-fit}
+use Rattle.shift_report.proofs.Plus.{made}
+use Rattle.shift_report.proofs.Bounds.{retried-most, squares-of-frame, peak-of-frame}
+use Rattle.totals.proofs.Adding.{plus-accepted, plus-refused, added, peaks-fit}
 use Rattle.totals.proofs.sums.add.Statement.{statement}
 use Rattle.totals.proofs.sums.add.Tie as tie
 

@@ -5,7 +5,7 @@ use native.Mathlib.Omega.{arith}
 use borrow.Author.Needs.{needs}
 use Rattle.lists.specs.Lists.{count}
 use Rattle.lists.proofs.Entries.{four-entries}
-use Rattle.totals.specs.Totals.{retriedIn}
+use Rattle.shift_report.specs.Totals.{retriedIn}
 use Rattle.totals.proofs.sums.retried.Statement.{statement}
 use Rattle.totals.proofs.sums.retried.Tie as tie
 

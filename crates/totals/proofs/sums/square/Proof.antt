@@ -7,7 +7,8 @@ use mir.Facts.{toZ-ofZ}
 use Rattle.basicop.proofs.Calls.{needsℤ}
 use Rattle.basicop.proofs.Range.{cast-asks, natAbs-mul}
 use Rattle.lines.proofs.Peaks.{widened}
-use Rattle.totals.proofs.Squares.{square-fits, square-from, square-most}
+use Rattle.shift_report.proofs.Squares.{square-most}
+use Rattle.totals.proofs.Squares.{square-fits, square-from}
 use Rattle.totals.proofs.sums.square.Statement.{statement}
 use Rattle.totals.proofs.sums.square.Tie as tie
 

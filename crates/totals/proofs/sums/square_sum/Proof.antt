@@ -8,7 +8,7 @@ use mir.Syntax.{w16}
 use Rattle.lists.specs.Lists.{at}
 use Rattle.lists.proofs.Signed.{back}
 use Rattle.lists.proofs.Fold.{Folding, fold-none, fold-more, fold-done}
-use Rattle.totals.specs.Totals.{square}
+use Rattle.shift_report.specs.Totals.{square}
 use Rattle.totals.proofs.Squares.{addSquare, squares-folded}
 use Rattle.totals.proofs.sums.square_sum.Statement.{statement}
 use Rattle.totals.proofs.sums.square_sum.Tie as tie

@@ -1,6 +1,6 @@
 -- `totals::zeros` meets its contract: every total of no call is 0.
 use mathlib.Core.Path.{refl}
-use Rattle.totals.specs.Totals.{acceptedCount, refusedCount, retriedTotal, squareTotal, peakTotal}
+use Rattle.shift_report.specs.Totals.{acceptedCount, refusedCount, retriedTotal, squareTotal, peakTotal}
 use Rattle.totals.proofs.sums.zeros.Statement.{statement}
 use Rattle.totals.proofs.sums.zeros.Tie as tie
 

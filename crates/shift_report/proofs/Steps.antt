@@ -4,30 +4,27 @@ use mathlib.Core.Path.{_≡_, refl, sym, ap, _∙_}
 use mathlib.Core.Bool.{Bool, true, false, cond, true≢false}
 use mathlib.Core.List.{List, [], _∷_, _++_, append-nil}
 use native.Mathlib.Omega.{arith}
-use borrow.Author.Tests.{eq-eqb, ne-eqb, eqb-true, eqb-false, ltb-true, ltb-false}
-use lib.Dec.{eqb, ltb}
-use lib.IntN.{ℤ}
+use borrow.Author.Tests.{eq-eqb, ne-eqb, ltb-true, ltb-false}
+use lib.Dec.{ltb}
 use lib.ListN.{length, take, drop, length-take, length-drop}
 use lib.Seq.{take-nil}
 use Rattle.state.specs.declared.State.{State}
 use Rattle.outcome.specs.Outcome.{numberOf, isAccepted}
 use Rattle.record.specs.declared.Answer.{Answer}
 use Rattle.record.specs.Record.{readCall}
-use Rattle.mr74.specs.declared.FrameAnswer.{FrameAnswer}
-use Rattle.mr74.specs.Frame.{Trace, CallResult, callResult, resultOf, frameCall}
+use Rattle.mr74.specs.Frame.{Trace}
 use Rattle.calls.specs.Calls.{traceOf, nextState, runCalls}
 use Rattle.calls.proofs.Calls.{decided}
 use Rattle.lines.specs.Lines.{stateLine}
-use Rattle.sheets.specs.Sheets.{sheetCall, StepResult, stepResult, openingStep}
+use Rattle.sheets.specs.Sheets.{StepResult, stepResult, openingStep}
 use Rattle.sheets.proofs.Opening.{opening-accepted, opening-refused}
 use Rattle.sheets.proofs.Pieces.{sheets-none, sheets-more}
-use Rattle.totals.specs.declared.Totals.{Totals}
-use Rattle.totals.specs.declared.TotalsStep.{TotalsStep}
-use Rattle.totals.specs.Totals.{totalsOf}
-use Rattle.totals.specs.Report.{callOf, wholeSheets, sheetTraces, reportLine, reportOutput}
-use Rattle.totals.specs.Steps.{plus, totalsStep, stepOf, loopTotals, programReport, StepTotals, StepsReport}
-use Rattle.totals.specs.Inner.{sheetsCounted, Adds}
-use Rattle.totals.proofs.Plus.{plus-count, counts, totals-append, zeros-plus, plus-zeros, plus-assoc}
+use Rattle.shift_report.specs.declared.Totals.{Totals}
+use Rattle.shift_report.specs.declared.TotalsStep.{TotalsStep}
+use Rattle.shift_report.specs.Totals.{totalsOf}
+use Rattle.shift_report.specs.Report.{callOf, wholeSheets, sheetTraces, reportLine, reportOutput}
+use Rattle.shift_report.specs.Steps.{plus, totalsStep, stepOf, loopTotals, programReport, StepTotals, StepsReport}
+use Rattle.shift_report.proofs.Plus.{totals-append, zeros-plus, plus-zeros, plus-assoc}
 
 -- ---- a step: a whole sheet, and anything else
 module _ (sums : Totals) (s : State) (bytes : List ℕ) where
@@ -38,26 +35,6 @@ module _ (sums : Totals) (s : State) (bytes : List ℕ) where
   pub added-none : ¬ (length bytes ≡ 364) → stepOf sums s bytes ≡ totalsStep sums s false
   unfolding stepOf
   added-none e = rw (ne-eqb (length bytes) 364 e) refl
-
-  called : sheetCall bytes s ≡ resultOf (traceOf s (callOf bytes))
-  unfolding sheetCall frameCall
-  called = refl
-
-  pub added-call : (a : FrameAnswer) (xs : List ℤ) (r : Totals) → length bytes ≡ 364 → callResult a xs ≡ sheetCall bytes s → Adds sums (a .outcome) (a .places) xs r
-      → totalsStep r (a .next) true ≡ stepOf sums s bytes
-  added-call a xs r e f g =
-      let h = f ∙ called in
-      let t = traceOf s (callOf bytes) in
-      ap (λ (x : Totals). totalsStep x (a .next) true) (g t (ap (λ (k : CallResult). k .answer .outcome) h) (ap (λ (k : CallResult). k .answer .places) h) (ap (λ (k : CallResult). k .lent) h))
-      ∙ ap (λ (k : CallResult). totalsStep (plus sums (totalsOf (t ∷ []))) (k .answer .next) true) h
-      ∙ sym (added-whole e)
-
-  pub step-counted : (r : TotalsStep) → r ≡ stepOf sums s bytes → sheetsCounted (r .totals) ≤ sheetsCounted sums + 1
-  step-counted r q = go (eqb (length bytes) 364) refl
-    where
-      go : (t : Bool) → eqb (length bytes) 364 ≡ t → sheetsCounted (r .totals) ≤ sheetsCounted sums + 1
-      go true e = rw (q, added-whole (eqb-true (length bytes) 364 e)) (omega (arith, plus-count sums (totalsOf (traceOf s (callOf bytes) ∷ [])), counts (traceOf s (callOf bytes) ∷ [])))
-      go false e = rw (q, added-none (eqb-false (length bytes) 364 e)) (omega arith)
 
 pub step-totals : StepTotals
 step-totals ts s sheet e = ap (λ (r : TotalsStep). r .totals) (added-whole (totalsOf ts) s sheet e) ∙ sym (totals-append ts (traceOf s (callOf sheet) ∷ []))

@@ -8,12 +8,11 @@ use Rattle.state.specs.State.{WellFormed}
 use Rattle.calls.specs.Calls.{Call, traceOf, nextState, runCalls, accepted}
 use Rattle.calls.proofs.Calls.{accepted-samples, accepted-places, next-well-formed}
 use Rattle.calls.proofs.Lists.{run-length}
-use Rattle.totals.specs.Totals.{totalsOf}
-use Rattle.totals.specs.Steps.{Bounded, TotalsBounded, TotalsWithin}
-use Rattle.totals.specs.Inner.{sheetsCounted}
-use Rattle.totals.proofs.Plus.{totals-append, counts}
-use Rattle.totals.proofs.Shares.{one-share}
-use Rattle.totals.proofs.Bounds.{share-bounded, bounded-zeros, bounded-plus}
+use Rattle.shift_report.specs.Totals.{totalsOf}
+use Rattle.shift_report.specs.Steps.{sheetsCounted, Bounded, TotalsBounded, TotalsWithin}
+use Rattle.shift_report.proofs.Plus.{totals-append, counts}
+use Rattle.shift_report.proofs.Shares.{one-share}
+use Rattle.shift_report.proofs.Bounds.{share-bounded, bounded-zeros, bounded-plus}
 
 one-bounded : (s : State) (c : Call) → WellFormed s → Bounded (totalsOf (traceOf s c ∷ []))
 one-bounded s c w =

@@ -12,10 +12,9 @@ use Rattle.lists.specs.Parts.{total}
 use Rattle.lists.proofs.Sums.{count-append, total-append, totalZ-append, filter-append}
 use Rattle.mr74.specs.Frame.{Trace}
 use Rattle.calls.specs.Calls.{accepted}
-use Rattle.totals.specs.declared.Totals.{Totals}
-use Rattle.totals.specs.Totals.{acceptedCount, refusedCount, retriedTotal, squareTotal, peakTotal, totalsOf}
-use Rattle.totals.specs.Steps.{plus}
-use Rattle.totals.specs.Inner.{sheetsCounted}
+use Rattle.shift_report.specs.declared.Totals.{Totals}
+use Rattle.shift_report.specs.Totals.{acceptedCount, refusedCount, retriedTotal, squareTotal, peakTotal, totalsOf}
+use Rattle.shift_report.specs.Steps.{plus, sheetsCounted}
 
 -- ---- the parts of totals
 abbrev pub made : ℕ → ℕ → ℕ → ℕ → ℤ → Totals

@@ -17,9 +17,9 @@ use Rattle.mr74.specs.Frame.{Trace}
 use Rattle.calls.specs.Calls.{traceOf, nextState}
 use Rattle.calls.proofs.Calls.{decided}
 use Rattle.lines.specs.Lines.{stateLine}
-use Rattle.totals.specs.Totals.{totalsOf}
-use Rattle.totals.specs.Report.{callOf, sheetTraces, reportLine, reportOutput, Unread}
-use Rattle.totals.proofs.Steps.{traces-none, traces-more}
+use Rattle.shift_report.specs.Totals.{totalsOf}
+use Rattle.shift_report.specs.Report.{callOf, sheetTraces, reportLine, reportOutput, Unread}
+use Rattle.shift_report.proofs.Steps.{traces-none, traces-more}
 
 -- k sheets and no more
 traces-unread : (k : ℕ) (s : State) (bytes : List ℕ) → sheetTraces k s (take (364 * k) bytes) ≡ sheetTraces k s bytes

@@ -10,8 +10,8 @@ use lib.ListN.{length, take}
 use Rattle.lines.specs.Lines.{decimal, integer, space, lineFeed, field, last}
 use Rattle.lines.specs.Put.{Put, Within}
 use Rattle.lines.proofs.Puts.{put-then, line-done}
-use Rattle.totals.specs.declared.Totals.{Totals}
-use Rattle.totals.specs.Report.{meanOf, noneWord, meanField, reportLine}
+use Rattle.shift_report.specs.declared.Totals.{Totals}
+use Rattle.shift_report.specs.Report.{meanOf, noneWord, meanField, reportLine}
 
 -- a field with a space, and what follows it
 module _ (a b c : List ℕ) (k r s : ℕ) (xs rest : List ℕ) where

@@ -16,8 +16,8 @@ use Rattle.mr74.specs.Frame.{Trace}
 use Rattle.calls.specs.Calls.{Call, FrameCall, runCalls}
 use Rattle.lines.specs.Lines.{decimal, integer, field, last, stateLine}
 use Rattle.sheets.specs.Sheets.{recordBytes, sheetBytes, sheetsOf}
-use Rattle.totals.specs.declared.Totals.{Totals}
-use Rattle.totals.specs.Totals.{totalsOf}
+use Rattle.shift_report.specs.declared.Totals.{Totals}
+use Rattle.shift_report.specs.Totals.{totalsOf}
 
 -- ---- the calls
 -- "at most 65,535 sheets"

@@ -9,7 +9,7 @@ use Rattle.decoder.specs.Subframe.{flagOf}
 use Rattle.mr74.specs.Frame.{Trace}
 use Rattle.calls.specs.Calls.{accepted}
 use Rattle.lines.specs.Lines.{peakOf}
-use Rattle.totals.specs.declared.Totals.{Totals}
+use Rattle.shift_report.specs.declared.Totals.{Totals}
 
 -- ---- of one call
 -- how many of its subframes were retried: their places are not 40

@@ -9,14 +9,13 @@ use lib.IntN.{ℤ, natAbs, _+ℤ_}
 use lib.ListN.{length, take, drop}
 use Rattle.state.specs.declared.State.{State}
 use Rattle.state.specs.State.{WellFormed}
-use Rattle.outcome.specs.declared.Outcome.{Outcome}
 use Rattle.mr74.specs.Frame.{Trace}
 use Rattle.calls.specs.Calls.{Call, traceOf, runCalls}
 use Rattle.sheets.specs.Sheets.{recordBytes, sheetBytes, openingStep}
-use Rattle.totals.specs.declared.Totals.{Totals}
-use Rattle.totals.specs.declared.TotalsStep.{TotalsStep}
-use Rattle.totals.specs.Totals.{totalsOf}
-use Rattle.totals.specs.Report.{sheetLimit, callOf, reportLine, reportOutput}
+use Rattle.shift_report.specs.declared.Totals.{Totals}
+use Rattle.shift_report.specs.declared.TotalsStep.{TotalsStep}
+use Rattle.shift_report.specs.Totals.{totalsOf}
+use Rattle.shift_report.specs.Report.{sheetLimit, callOf, reportLine, reportOutput}
 
 -- the totals of two lists together
 unfoldable pub plus : Totals → Totals → Totals
@@ -64,6 +63,10 @@ abbrev pub StepsReport : Type 0
 StepsReport = (input : List ℕ) → programReport input ≡ reportOutput input
 
 -- ---- widths
+-- the sheets that were counted, accepted and refused
+abbrev pub sheetsCounted : Totals → ℕ
+sheetsCounted t = t .accepted + t .refused
+
 -- by the count of accepted calls: of each at most four retried subframes, 160 squares of at most 2 ^ 30, and a peak at most 32768 from zero
 pub record Bounded (t : Totals) : Type 0 where
   pub retried : t .retried ≤ 4 * t .accepted
