@@ -56,9 +56,9 @@ count [] = 0
 count (b ∷ bs) = oneIf b + count bs
 
 -- the entries of which the test is true, in order
-abbrev pub filter : {A : Type 0} → (A → Bool) → List A → List A
-filter f [] = []
-filter f (x ∷ xs) = cond (f x) (x ∷ filter f xs) (filter f xs)
+abbrev pub selected : {A : Type 0} → (A → Bool) → List A → List A
+selected f [] = []
+selected f (x ∷ xs) = cond (f x) (x ∷ selected f xs) (selected f xs)
 
 -- all the integers together; `total` (Parts.antt) of naturals
 abbrev pub totalZ : List ℤ → ℤ

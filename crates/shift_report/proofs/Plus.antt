@@ -7,9 +7,9 @@ use native.Mathlib.Omega.{arith}
 use native.Mathlib.Nat.{zero-add, add-zero, add-assoc}
 use lib.ListN.{length}
 use lib.IntN.{ℤ, _+ℤ_, +ℤ-idl, +ℤ-idr, +ℤ-assoc}
-use Rattle.lists.specs.Lists.{oneIf, count, filter, totalZ}
+use Rattle.lists.specs.Lists.{oneIf, count, selected, totalZ}
 use Rattle.lists.specs.Parts.{total}
-use Rattle.lists.proofs.Sums.{count-append, total-append, totalZ-append, filter-append}
+use Rattle.lists.proofs.Sums.{count-append, total-append, totalZ-append, selected-append}
 use Rattle.mr74.specs.Frame.{Trace}
 use Rattle.calls.specs.Calls.{accepted}
 use Rattle.shift_report.specs.declared.Totals.{Totals}
@@ -33,14 +33,14 @@ module _ (ts us : List Trace) where
   counted : (test : Trace → Bool) → count (map test (ts ++ us)) ≡ count (map test ts) + count (map test us)
   counted test = ap count (map-append test ts us) ∙ count-append (map test ts) (map test us)
 
-  kept : {A : Type 0} (test : Trace → Bool) (f : Trace → A) → map f (filter test (ts ++ us)) ≡ map f (filter test ts) ++ map f (filter test us)
-  kept test f = ap (map f) (filter-append test ts us) ∙ map-append f (filter test ts) (filter test us)
+  kept : {A : Type 0} (test : Trace → Bool) (f : Trace → A) → map f (selected test (ts ++ us)) ≡ map f (selected test ts) ++ map f (selected test us)
+  kept test f = ap (map f) (selected-append test ts us) ∙ map-append f (selected test ts) (selected test us)
 
-  summed : (test : Trace → Bool) (f : Trace → ℕ) → total (map f (filter test (ts ++ us))) ≡ total (map f (filter test ts)) + total (map f (filter test us))
-  summed test f = ap total (kept test f) ∙ total-append (map f (filter test ts)) (map f (filter test us))
+  summed : (test : Trace → Bool) (f : Trace → ℕ) → total (map f (selected test (ts ++ us))) ≡ total (map f (selected test ts)) + total (map f (selected test us))
+  summed test f = ap total (kept test f) ∙ total-append (map f (selected test ts)) (map f (selected test us))
 
-  summedZ : (test : Trace → Bool) (f : Trace → ℤ) → totalZ (map f (filter test (ts ++ us))) ≡ totalZ (map f (filter test ts)) +ℤ totalZ (map f (filter test us))
-  summedZ test f = ap totalZ (kept test f) ∙ totalZ-append (map f (filter test ts)) (map f (filter test us))
+  summedZ : (test : Trace → Bool) (f : Trace → ℤ) → totalZ (map f (selected test (ts ++ us))) ≡ totalZ (map f (selected test ts)) +ℤ totalZ (map f (selected test us))
+  summedZ test f = ap totalZ (kept test f) ∙ totalZ-append (map f (selected test ts)) (map f (selected test us))
 
   pub totals-append : totalsOf (ts ++ us) ≡ plus (totalsOf ts) (totalsOf us)
   unfolding plus acceptedCount refusedCount retriedTotal squareTotal peakTotal

@@ -7,7 +7,7 @@ use lib.Dec.{eqb}
 use lib.IntN.{ℤ, pos, _+ℤ_, _*ℤ_}
 use lib.ListN.{length, take, drop, replicate}
 use lib.Signed.{shrZ, _≤ℤ_, _<ℤ_}
-use Rattle.lists.specs.Lists.{filter}
+use Rattle.lists.specs.Lists.{selected}
 use Rattle.state.specs.declared.State.{State}
 use Rattle.outcome.specs.Outcome.{numberOf, isAccepted}
 use Rattle.coding.specs.Bytes.{words}
@@ -26,7 +26,7 @@ sheetLimit = 65535
 
 -- the whole ones among the first k sheets of the bytes after the record: a cut one counts in neither column
 unfoldable pub wholeSheets : ℕ → List ℕ → List (List ℕ)
-wholeSheets k bytes = filter (λ (sheet : List ℕ). eqb (length sheet) sheetBytes) (take k (sheetsOf bytes))
+wholeSheets k bytes = selected (λ (sheet : List ℕ). eqb (length sheet) sheetBytes) (take k (sheetsOf bytes))
 
 -- the frame call of a sheet's bytes, with 160 zeros lent
 abbrev pub callOf : List ℕ → Call

@@ -3,7 +3,7 @@ use mathlib.Core.Bool.{not}
 use mathlib.Core.List.{List, map}
 use Prim.Native.Nat.{ℕ, _*_}
 use lib.IntN.{ℤ, natAbs}
-use Rattle.lists.specs.Lists.{count, filter, totalZ}
+use Rattle.lists.specs.Lists.{count, selected, totalZ}
 use Rattle.lists.specs.Parts.{total}
 use Rattle.decoder.specs.Subframe.{flagOf}
 use Rattle.mr74.specs.Frame.{Trace}
@@ -30,13 +30,13 @@ unfoldable pub refusedCount : List Trace → ℕ
 refusedCount ts = count (map (λ (t : Trace). not (accepted t)) ts)
 
 unfoldable pub retriedTotal : List Trace → ℕ
-retriedTotal ts = total (map (λ (t : Trace). retriedIn (t .places)) (filter accepted ts))
+retriedTotal ts = total (map (λ (t : Trace). retriedIn (t .places)) (selected accepted ts))
 
 unfoldable pub squareTotal : List Trace → ℕ
-squareTotal ts = total (map (λ (t : Trace). squareSum (t .output)) (filter accepted ts))
+squareTotal ts = total (map (λ (t : Trace). squareSum (t .output)) (selected accepted ts))
 
 unfoldable pub peakTotal : List Trace → ℤ
-peakTotal ts = totalZ (map (λ (t : Trace). peakOf (t .output)) (filter accepted ts))
+peakTotal ts = totalZ (map (λ (t : Trace). peakOf (t .output)) (selected accepted ts))
 
 abbrev pub totalsOf : List Trace → Totals
 totalsOf ts =
