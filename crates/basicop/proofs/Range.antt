@@ -89,7 +89,11 @@ sfits-range w z h = omega (arithℤ, pow-pos (hbits w))
 pub sfits-from : (w : Width) (z : ℤ) → least w ≤ℤ z → z ≤ℤ most w → SFits w z
 sfits-from w z h k = sfits-by (omega (arithℤ, pow-pos (hbits w)))
 
--- ---- casts from and to an unsigned type
+-- ---- casts
+-- a number, cast to a wider type
+pub widened : (w v : Width) (z : ℤ) → SFits w z → T (leb (2 ^ hbits w) (2 ^ hbits v)) → toZ v (ofZ v (toZ w (ofZ w z))) ≡ z
+widened w v z f t = rw (toZ-ofZ f) (toZ-ofZ (sfits-wider v z (2 ^ hbits w) (f .sfits) t))
+
 -- n, cast to a signed type that holds it
 pub toZ-nat : (w : Width) (n k : ℕ) → n < k → T (leb k (2 ^ hbits w)) → toZ w n ≡ pos n
 toZ-nat w n k h t = toZ-pos w (lt-of-lt-of-le h (leb→le k (2 ^ hbits w) t))

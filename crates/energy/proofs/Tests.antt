@@ -1,20 +1,19 @@
--- Equality of integers as a test; what holds of both arms holds of a choice; a shift to the right and a cast to a wider type, in the code. Assumes nothing.
+-- Equality of integers as a test; what holds of both arms holds of a choice; a shift to the right, in the code. Assumes nothing.
 use mathlib.Core.Path.{_≡_, refl, ap, subst}
 use Prim.Native.Nat.{ℕ, zero, suc, _<_, _^_}
 use mathlib.Core.Bool.{Bool, true, false, cond}
 use borrow.Author.Tests.{ne-eqb}
-use lib.Dec.{T, leb}
+use lib.Dec.{T}
 use lib.IntN.{ℤ, pos, negsuc}
 use lib.Signed.{mag, shrZ, _≤ℤ_, _<ℤ_}
 use mir.Syntax.{Width}
-use mir.Val.{SFits, hbits, toZ, ofZ}
+use mir.Val.{hbits, toZ, ofZ}
 use mir.Facts.{toZ-ofZ}
 use Rattle.lists.specs.Lists.{eqZ}
 use Rattle.lists.proofs.Signed.{back}
 use Rattle.lists.proofs.Table.{eqZ→eq}
 use Rattle.basicop.specs.Ops.{asr}
 use Rattle.basicop.proofs.Ints.{arithℤ}
-use Rattle.basicop.proofs.Range.{sfits-wider}
 use Rattle.basicop.proofs.Shift.{sfits-shr-same}
 
 pub eqZ-yes : (a b : ℤ) → eqZ a b ≡ true → a ≡ b
@@ -45,7 +44,3 @@ either P false p q = q
 pub shift-back : (w : Width) (n : ℕ) {z r : ℤ} → mag z < 2 ^ hbits w → z ≡ r → toZ w (ofZ w (shrZ (toZ w (ofZ w z)) (2 ^ n))) ≡ asr r n
 unfolding asr
 shift-back w n {z} h e = rw (back w {z = z} h, toZ-ofZ (sfits-shr-same w z (2 ^ n) (record { sfits = h }))) (ap (λ (y : ℤ). shrZ y (2 ^ n)) e)
-
--- a number, cast to a wider type
-pub widened : (w v : Width) (z : ℤ) → SFits w z → T (leb (2 ^ hbits w) (2 ^ hbits v)) → toZ v (ofZ v (toZ w (ofZ w z))) ≡ z
-widened w v z f t = rw (toZ-ofZ f) (toZ-ofZ (sfits-wider v z (2 ^ hbits w) (f .sfits) t))

@@ -2,22 +2,15 @@
 use mathlib.Core.Path.{_≡_, refl}
 use mathlib.Core.Bool.{Bool, true, false, cond, _||_}
 use mathlib.Core.List.{List, [], _∷_, map, foldl}
-use Prim.Native.Nat.{ℕ, suc, _<_, _^_}
+use Prim.Native.Nat.{ℕ, suc, _<_}
 use native.Mathlib.Omega.{arith}
 use lib.IntN.{ℤ, pos}
 use lib.ListN.{length, getD}
-use lib.Signed.{ltZ, mag}
-use mir.Syntax.{w16, w32}
-use mir.Val.{SFits, toZ, ofZ, hbits}
-use mir.Facts.{toZ-ofZ}
-use Rattle.basicop.proofs.Range.{sfits-wider}
-use Rattle.lists.proofs.Signed.{back}
+use lib.Signed.{ltZ}
+use mir.Syntax.{w16}
+use mir.Val.{SFits}
 use Rattle.lists.specs.Lists.{at}
 use Rattle.lines.specs.Lines.{larger, peakOf, anyOf, markOf, flagDigit}
-
--- a sample that is read into a local of 32 bits
-pub widened : (z : ℤ) → mag z < 2 ^ hbits w16 → toZ w32 (ofZ w32 (toZ w16 (ofZ w16 z))) ≡ z
-widened z h = rw (back w16 {z = z} h) (toZ-ofZ (sfits-wider w32 z (2 ^ hbits w16) h tt))
 
 pub larger-right : (a b : ℤ) → ltZ a b ≡ true → b ≡ larger a b
 larger-right a b e = rw e

@@ -2,8 +2,8 @@
 use mir.Syntax.{w16, w32}
 use mir.Facts.{toZ-ofZ}
 use Rattle.lists.proofs.Signed.{got}
+use Rattle.basicop.proofs.Range.{widened}
 use Rattle.basicop.proofs.Calls.{needsℤ}
-use Rattle.energy.proofs.Tests.{widened}
 use Rattle.energy.proofs.gain.scaled_ratio.Statement.{statement}
 use Rattle.energy.proofs.gain.scaled_ratio.Tie as tie
 

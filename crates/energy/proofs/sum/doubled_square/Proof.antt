@@ -5,9 +5,8 @@ use lib.IntN.{pos, _*ℤ_}
 use mir.Syntax.{w16, w64}
 use mir.Val.{SFits, toZ, ofZ}
 use mir.Facts.{toZ-ofZ}
-use Rattle.basicop.proofs.Range.{sfits-mul, sfits-scale}
+use Rattle.basicop.proofs.Range.{sfits-mul, sfits-scale, widened}
 use Rattle.basicop.proofs.Calls.{needsℤ}
-use Rattle.energy.proofs.Tests.{widened}
 use Rattle.energy.proofs.Sums.{square-is, square-most}
 use Rattle.energy.proofs.sum.doubled_square.Statement.{statement}
 use Rattle.energy.proofs.sum.doubled_square.Tie as tie

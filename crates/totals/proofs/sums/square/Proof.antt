@@ -5,15 +5,14 @@ use mir.Syntax.{w16, w32, w64}
 use mir.Val.{SFits, toZ, ofZ}
 use mir.Facts.{toZ-ofZ}
 use Rattle.basicop.proofs.Calls.{needsℤ}
-use Rattle.basicop.proofs.Range.{cast-asks, natAbs-mul}
-use Rattle.lines.proofs.Peaks.{widened}
+use Rattle.basicop.proofs.Range.{cast-asks, natAbs-mul, widened}
 use Rattle.shift_report.proofs.Squares.{square-most}
 use Rattle.totals.proofs.Squares.{square-fits, square-from}
 use Rattle.totals.proofs.sums.square.Statement.{statement}
 use Rattle.totals.proofs.sums.square.Tie as tie
 
 wide : (x : ℤ) → SFits w16 x → toZ w32 (ofZ w32 (toZ w16 (ofZ w16 x))) ≡ x
-wide x f = widened x (f .sfits)
+wide x f = widened w16 w32 x f tt
 
 mul-result : tie.Need-mul-result
 mul-result c = let x = c .args .x in rw (wide x (c .fits .x)) (square-fits x (c .fits .x))
