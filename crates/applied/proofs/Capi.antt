@@ -5,14 +5,14 @@ use mathlib.Core.List.{List, [], _∷_}
 use Prim.Native.Nat.{ℕ, suc}
 use native.Mathlib.Omega.{arith}
 use lib.ListN.{replicate}
-use Rattle.outcome.specs.Checks.{firstMet, firstOutside}
+use Rattle.outcome.specs.Checks.{firstMet, firstOutside, firstClose}
 use Rattle.state.specs.Layout.{coreOf, postOf, stateOf}
-use Rattle.coding.specs.Bytes.{words, Bytes}
+use Rattle.coding.specs.Bytes.{words, bytesOf, Bytes}
 use Rattle.mr74.specs.Checks.{frameOutcome}
 use Rattle.mr74.specs.Frame.{frameTrace, frameCall}
 use Rattle.capi.specs.Capi.{frameBytes}
 use Rattle.capi.proofs.Unchanged.{refused-unchanged}
-use Rattle.applied.specs.Capi.{returned, unsent, unmet, UnchangedApplied}
+use Rattle.applied.specs.Capi.{returned, unsent, lowestSheet, unmet, UnchangedApplied}
 use Rattle.applied.proofs.Concrete.{bytes-by}
 
 unsent-code : unsent .code ≡ 1
@@ -24,7 +24,7 @@ unfolding frameBytes frameCall frameTrace frameOutcome firstMet
 unsent-places = refl
 
 unmet-code : unmet .code ≡ 16
-unfolding frameBytes frameCall frameTrace frameOutcome firstMet firstOutside words stateOf coreOf postOf
+unfolding frameBytes frameCall frameTrace frameOutcome firstMet firstOutside firstClose words bytesOf stateOf coreOf postOf
 unmet-code = refl
 
 -- another number than 0
@@ -38,7 +38,7 @@ module _ (sheet state : List ℕ) (n : ℕ) (bytes : Bytes state) (e : returned 
 pub unchanged-applied : UnchangedApplied
 unchanged-applied =
     let a = unchanged [] (replicate 394 1) 0 (bytes-by (replicate 394 1) refl) unsent-code in
-    let b = unchanged (replicate 364 0) (replicate 394 255) 15 (bytes-by (replicate 394 255) refl) unmet-code in
+    let b = unchanged lowestSheet (replicate 394 255) 15 (bytes-by (replicate 394 255) refl) unmet-code in
     record {
       unsent-code = unsent-code;
       unsent-state = a .0;

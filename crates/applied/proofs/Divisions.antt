@@ -4,7 +4,7 @@ use mathlib.Core.Bool.{true}
 use lib.IntN.{pos}
 use lib.ListN.{length, replicate}
 use Rattle.outcome.specs.Outcome.{isAccepted}
-use Rattle.outcome.specs.Checks.{firstMet, firstOutside}
+use Rattle.outcome.specs.Checks.{firstMet, firstOutside, firstClose}
 use Rattle.state.specs.Layout.{coreOf, postOf, stateOf}
 use Rattle.mr74.specs.Checks.{frameOutcome}
 use Rattle.mr74.proofs.Divisions.{frame-divisions}
@@ -13,7 +13,7 @@ use Rattle.applied.specs.Divisions.{DivisionsApplied}
 use Rattle.applied.proofs.Examples.{example}
 
 not-turned-back : isAccepted (frameOutcome loud silent (length (replicate 160 (pos 0)))) ≡ true
-unfolding frameOutcome firstMet firstOutside loud silent stateOf coreOf postOf
+unfolding frameOutcome firstMet firstOutside firstClose loud silent stateOf coreOf postOf
 not-turned-back = refl
 
 pub divisions-applied : DivisionsApplied

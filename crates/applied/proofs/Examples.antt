@@ -25,7 +25,7 @@ use Rattle.postfilter.specs.Residual.{residualSum, residual}
 use Rattle.postfilter.specs.Tilt as tilts
 use Rattle.postfilter.specs.Preemphasis.{preemphasised}
 use Rattle.postfilter.specs.Postfilter.{filterResult, postfilterResult}
-use Rattle.outcome.specs.Checks.{firstMet, firstOutside}
+use Rattle.outcome.specs.Checks.{firstMet, firstOutside, firstClose}
 use Rattle.state.specs.State.{WellFormed, stateOutcome}
 use Rattle.state.specs.Layout.{coreOf, postOf, stateOf}
 use Rattle.mr74.specs.Checks.{frameOutcome}
@@ -40,7 +40,7 @@ unfolding silent stateWith stateOf coreOf postOf
 silent-well-formed = with-well-formed (pos 0) (pos 0) zero-fits zero-fits
 
 seen-is : seen (traceOf silent call) ≡ expected
-unfolding flatMap iter tab clamp asr wrap add sub mult shl L-add L-sub L-mult L-shl L-shr-r L-deposit-h doublings norm-l div-s L-Extract Mpy-32-16 absolute lag-min relative cosine between lspOf raisedAt polynomial rowOf rowsOf inter6 phase start interpolated extended predicted sharpened sharpening feedback squares energy energyGain agc2 inverseTable rootScaled inverseRoot outside recursion stepNumbers someOutside someListOutside firstListOutside acc accs enhanced firstExcitation synthesisResult excitations subframeResult subframeResults coreResult firstMet stateOf coreOf postOf firstOutside frameOutcome frameTrace loud silent numerator denominator weighted residualSum residual tilts.impulse tilts.correlation tilts.tiltOf tilts.tilt preemphasised filterResult postfilterResult agc controlled
+unfolding flatMap iter tab clamp asr wrap add sub mult shl L-add L-sub L-mult L-shl L-shr-r L-deposit-h doublings norm-l div-s L-Extract Mpy-32-16 absolute lag-min relative cosine between lspOf raisedAt polynomial rowOf rowsOf inter6 phase start interpolated extended predicted sharpened sharpening feedback squares energy energyGain agc2 inverseTable rootScaled inverseRoot outside recursion stepNumbers someOutside someListOutside firstListOutside acc accs enhanced firstExcitation synthesisResult excitations subframeResult subframeResults coreResult firstMet stateOf coreOf postOf firstOutside firstClose frameOutcome frameTrace loud silent numerator denominator weighted residualSum residual tilts.impulse tilts.correlation tilts.tiltOf tilts.tilt preemphasised filterResult postfilterResult agc controlled
 seen-is = refl
 
 pub example : Example

@@ -9,7 +9,7 @@ use lib.ListN.{length, length-append}
 use lib.Seq.{take-at}
 use lib.Signed.{_≤ℤ_, _<ℤ_}
 use Rattle.lists.specs.Lists.{oneIf, minus}
-use Rattle.outcome.specs.Checks.{firstMet, firstOutside}
+use Rattle.outcome.specs.Checks.{firstMet, firstOutside, firstClose}
 use Rattle.state.specs.State.{stateOutcome}
 use Rattle.state.specs.Layout.{coreOf, postOf, stateOf}
 use Rattle.coding.specs.Bytes.{words}
@@ -27,8 +27,8 @@ use Rattle.shift_report.proofs.Unread.{unread}
 use Rattle.shift_report.proofs.Steps as steps
 use Rattle.shift_report.proofs.Widths as widths
 use Rattle.applied.specs.Examples.{silent, call, calls, Seen}
-use Rattle.applied.specs.Listing.{ascii, input}
-use Rattle.applied.specs.Report.{two, three, expected, recordAlone, badSheet, ReportApplied}
+use Rattle.applied.specs.Listing.{ascii, zeroRecord, badSheet, input, gapInput}
+use Rattle.applied.specs.Report.{two, three, expected, ReportApplied}
 use Rattle.applied.proofs.Examples.{example}
 use Rattle.applied.proofs.Listing.{listing}
 
@@ -46,10 +46,10 @@ mean-is = refl
 
 -- with the refused sheet's own trace
 step-is : totalsOf (two ++ (calls.traceOf silent (callOf badSheet) ∷ [])) ≡ expected
-unfolding oneIf retriedIn squareSum acceptedCount refusedCount retriedTotal squareTotal peakTotal peakOf frameTrace frameOutcome firstMet firstOutside words silent stateOf coreOf postOf
+unfolding oneIf retriedIn squareSum acceptedCount refusedCount retriedTotal squareTotal peakTotal peakOf frameTrace frameOutcome firstMet firstOutside firstClose words silent stateOf coreOf postOf
 step-is = refl
 
-alone-is : reportOutput recordAlone ≡ ascii "0 0 0 0 none\n"
+alone-is : reportOutput zeroRecord ≡ ascii "0 0 0 0 none\n"
 unfolding reportOutput readCall recordOutcome firstMet stateOutcome stateOf coreOf postOf sheetTraces wholeSheets sheetsOf runCalls acceptedCount refusedCount retriedTotal squareTotal peakTotal reportLine meanField decimal spelled ascii words
 alone-is = refl
 
@@ -63,8 +63,8 @@ unfolding acceptedCount runCalls oneIf frameTrace frameOutcome firstMet
 one-accepted = ap (λ (e : Seen). oneIf (e .accepted) + 0) (example .call)
 
 -- what is not read may be cut off
-unread-behind : (sheets more : List ℕ) → length sheets ≡ 23854740 → reportOutput (recordAlone ++ sheets ++ more) ≡ reportOutput (recordAlone ++ sheets)
-unread-behind sheets more e = sym (unread (recordAlone ++ sheets ++ more)) ∙ ap reportOutput (take-at (recordAlone ++ sheets) more 23855142 (omega (arith, length-append recordAlone sheets, e)))
+unread-behind : (sheets more : List ℕ) → length sheets ≡ 23854740 → reportOutput (zeroRecord ++ sheets ++ more) ≡ reportOutput (zeroRecord ++ sheets)
+unread-behind sheets more e = sym (unread (zeroRecord ++ sheets ++ more)) ∙ ap reportOutput (take-at (zeroRecord ++ sheets) more 23855142 (omega (arith, length-append zeroRecord sheets, e)))
 
 pub report-applied : ReportApplied
 report-applied =
@@ -74,7 +74,8 @@ report-applied =
       line = line-is;
       step = steps.step-totals two silent badSheet refl ∙ step-is;
       listing = steps.steps-report input ∙ listing .report;
-      alone = steps.steps-report recordAlone ∙ alone-is;
+      gaps = steps.steps-report gapInput ∙ listing .gap-report;
+      alone = steps.steps-report zeroRecord ∙ alone-is;
       short = steps.steps-report [] ∙ none-refused;
       unread = unread-behind;
       mean = mean-is;

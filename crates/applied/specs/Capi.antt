@@ -2,10 +2,13 @@
 -- of the first, computed.
 -- The theorem is `unchanged-applied` in proofs/Capi.antt.
 use mathlib.Core.Path.{_≡_}
-use mathlib.Core.List.{List, [], _∷_}
+use mathlib.Core.List.{List, [], _∷_, _++_}
 use Prim.Native.Nat.{ℕ}
+use lib.IntN.{pos}
 use lib.ListN.{replicate}
+use Rattle.coding.specs.Bytes.{bytesOf}
 use Rattle.capi.specs.Capi.{FrameReturn, frameBytes}
+use Rattle.applied.specs.Refusals.{lowest}
 
 -- of a sheet and a state's bytes: the output is 320 bytes of 9, rows and places are zeros
 abbrev pub returned : List ℕ → List ℕ → FrameReturn
@@ -15,9 +18,12 @@ returned sheet state = frameBytes sheet state (replicate 320 9) (replicate 88 0)
 abbrev pub unsent : FrameReturn
 unsent = returned [] (replicate 394 1)
 
--- a sheet of zeros, and a state whose numbers are all -1, its sharpening too: 16
+-- a sheet of zeros but for its LSFs, and a state whose numbers are all -1, its sharpening too: 16
+abbrev pub lowestSheet : List ℕ
+lowestSheet = bytesOf (lowest ++ replicate 172 (pos 0))
+
 abbrev pub unmet : FrameReturn
-unmet = returned (replicate 364 0) (replicate 394 255)
+unmet = returned lowestSheet (replicate 394 255)
 
 pub record UnchangedApplied : Type 0 where
   pub unsent-code : unsent .code ≡ 1

@@ -4,7 +4,7 @@ use mathlib.Core.Path.{_≡_}
 use mathlib.Core.List.{List, [], _∷_, _++_}
 use Prim.Native.Nat.{ℕ, _<_, _≤_}
 use lib.IntN.{ℤ, pos, natAbs}
-use lib.ListN.{length, replicate}
+use lib.ListN.{length}
 use lib.Signed.{_≤ℤ_, _<ℤ_}
 use Rattle.lists.specs.Lists.{minus}
 use Rattle.outcome.specs.declared.Outcome.{Outcome}
@@ -16,7 +16,7 @@ use Rattle.shift_report.specs.Totals.{totalsOf}
 use Rattle.shift_report.specs.Report.{meanOf, reportLine, reportOutput}
 use Rattle.shift_report.specs.Steps.{stepOf, programReport}
 use Rattle.applied.specs.Examples.{silent, calls, emptyTrace}
-use Rattle.applied.specs.Listing.{ascii, input}
+use Rattle.applied.specs.Listing.{ascii, zeroRecord, badSheet, input, gapInput}
 
 -- ---- three calls: two accepted ones, the first with two retried subframes, and a refused one, whose lent output is none of its own
 abbrev pub traceWith : Outcome → List ℕ → List ℤ → Trace
@@ -43,25 +43,19 @@ three = two ++ (traceWith SheetLength (40 ∷ 40 ∷ 40 ∷ 40 ∷ []) (pos 5 �
 abbrev pub expected : Totals
 expected = record { accepted = 2; refused = 1; retried = 2; squares = 14558; peaks = minus 73 }
 
--- ---- an input that is a record alone, and a sheet with only LSF 9 = 16385, which is refused
-abbrev pub recordAlone : List ℕ
-recordAlone = replicate 394 0 ++ (0x4D ∷ 0x37 ∷ 0x01 ∷ 0x00 ∷ 0x8A ∷ 0x01 ∷ 0xC5 ∷ 0x00 ∷ [])
-
-abbrev pub badSheet : List ℕ
-badSheet = replicate 18 0 ++ (0x01 ∷ 0x40 ∷ replicate 344 0)
-
 pub record ReportApplied : Type 0 where
   -- computed
   pub totals : totalsOf three ≡ expected
   pub line : reportLine expected ≡ ascii "2 1 2 14558 -37\n"
   -- StepTotals: the sums of two calls, and a refused sheet
   pub step : stepOf (totalsOf two) silent badSheet .totals ≡ expected
-  -- StepsReport: what the program prints of document 01's listing, of a record alone, and of no byte at all
-  pub listing : programReport input ≡ ascii "1 1 0 0 0\n"
-  pub alone : programReport recordAlone ≡ ascii "0 0 0 0 none\n"
+  -- StepsReport: what the program prints of document 01's listing, of sheets that keep the gap and break it, of a record alone, and of no byte at all
+  pub listing : programReport input ≡ ascii "0 2 0 0 none\n"
+  pub gaps : programReport gapInput ≡ ascii "1 5 0 0 0\n"
+  pub alone : programReport zeroRecord ≡ ascii "0 0 0 0 none\n"
   pub short : programReport [] ≡ ascii "state refused 11\n"
   -- Unread: whatever comes behind a record and 65,535 × 364 bytes
-  pub unread : (sheets more : List ℕ) → length sheets ≡ 23854740 → reportOutput (recordAlone ++ sheets ++ more) ≡ reportOutput (recordAlone ++ sheets)
+  pub unread : (sheets more : List ℕ) → length sheets ≡ 23854740 → reportOutput (zeroRecord ++ sheets ++ more) ≡ reportOutput (zeroRecord ++ sheets)
   -- MeanFloor: twice the mean of -80 and 7 is at most their sum, and twice one more is above it
   pub mean : meanOf (minus 73) 2 ≡ minus 37
   pub floor : (minus 74 ≤ℤ minus 73) × (minus 73 <ℤ minus 72)

@@ -43,11 +43,22 @@ int main(void)
     code = mr74_read(record, sizeof record, state, sizeof state, &note);
     expect("an all-zero record behind a note of 3 bytes is read", code == 0 && note == 3 && all_zero(state, sizeof state));
 
+    code = mr74_frame(sheet, sizeof sheet, state, sizeof state, out, sizeof out, rows, sizeof rows, places, sizeof places);
+    expect("a sheet of zeros is refused by number 6 at place 0: its first LSF is below 205", MR74_NUMBER(code) == 6 && MR74_PLACE(code) == 0);
+
+    for (int i = 0; i < 10; i++) { /* LSFs 205, 410, .. 2050, as close as they may lie */
+        sheet[2 * i] = (uint8_t)(205 * (i + 1));
+        sheet[2 * i + 1] = (uint8_t)(205 * (i + 1) >> 8);
+    }
     memset(out, 0x5A, sizeof out);
     memset(places, 0x5A, sizeof places);
     code = mr74_frame(sheet, sizeof sheet, state, sizeof state, out, sizeof out, rows, sizeof rows, places, sizeof places);
-    expect("a sheet of zeros is accepted: silence, and no subframe retried", code == 0 && all_zero(out, sizeof out) && all_are(40, places, sizeof places));
+    expect("a sheet of LSFs alone is accepted: silence, and no subframe retried", code == 0 && all_zero(out, sizeof out) && all_are(40, places, sizeof places));
     expect("every row begins with 4096", rows[0] == 0 && rows[1] == 16 && rows[66] == 0 && rows[67] == 16);
+
+    sheet[8] -= 1; /* LSF 4: 204 above the one before */
+    code = mr74_frame(sheet, sizeof sheet, state, sizeof state, out, sizeof out, rows, sizeof rows, places, sizeof places);
+    expect("an LSF that is 204 above the one before is refused by number 6 at its place", MR74_NUMBER(code) == 6 && MR74_PLACE(code) == 4);
 
     sheet[18] = 0x01; /* the last LSF: 16385 */
     sheet[19] = 0x40;

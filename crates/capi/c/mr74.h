@@ -4,7 +4,7 @@
  * length in bytes; no two buffers of a call overlap. A state is the 394 bytes of a record's body.
  *
  * A call returns number + 256 * place: the refusal's number, 0 where the call was accepted, and the refusal's place, which
- * goes with 2, 3 and 4, else 0 (it is none of the four in places). It returns MR74_UNFIT, and changes nothing, where state,
+ * goes with 2, 3, 4 and 6, else 0 (it is none of the four in places). It returns MR74_UNFIT, and changes nothing, where state,
  * rows or places has another length than its own.
  * A sheet or an output of another length is refused by the paper's numbers, 1 and 5. */
 #ifndef MR74_H

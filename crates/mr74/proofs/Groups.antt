@@ -1,27 +1,29 @@
 -- The groups of checks of a frame call: what each has shown where it accepts, and the places of its refusals. Assumes nothing.
-use Prim.Native.Nat.{ℕ, _+_, _≤_, _<_}
+use Prim.Native.Nat.{ℕ, suc, _+_, _≤_, _<_}
 use mathlib.Core.Path.{_≡_}
 use mathlib.Core.Bool.{true}
 use mathlib.Core.List.{List, [], _∷_, _++_}
+use native.Mathlib.Numerals.{add-one}
 use native.Mathlib.Omega.{arith}
-use lib.IntN.{ℤ, pos}
+use lib.IntN.{ℤ, pos, _+ℤ_}
 use lib.ListN.{length, take, drop}
-use lib.Seq.{length-take-le}
+use lib.Seq.{length-take-le, getD-take}
 use lib.Signed.{_≤ℤ_}
 use borrow.Author.Tests.{eqb-true, ltb-false, not-false}
 use Rattle.lists.specs.Lists.{at}
 use Rattle.lists.proofs.Entries.{stretch-at}
 use Rattle.spectral.specs.Lsp.{Frequencies}
-use Rattle.outcome.specs.declared.Outcome.the-variants.{Lsf, PitchIndex, Gain}
+use Rattle.outcome.specs.declared.Outcome.the-variants.{Lsf, PitchIndex, Gain, LsfGap}
 use Rattle.outcome.specs.Outcome.{placeOf, isAccepted}
-use Rattle.outcome.specs.Checks.{firstMet, firstOutside}
+use Rattle.outcome.specs.Checks.{firstMet, firstOutside, firstClose}
 use Rattle.outcome.proofs.Checks.{none-met, Placed, placed-append, none-placed, found-placed, place-low}
 use Rattle.outcome.proofs.Ranges.{in-ranges, in-range-all}
+use Rattle.outcome.proofs.Gaps.{in-gaps}
 use Rattle.state.specs.declared.State.{State}
 use Rattle.state.specs.State.{stateChecks}
 use Rattle.state.proofs.Checks.{state-placed}
 use Rattle.mr74.specs.Sheet.{lsfsOf, gainsOf}
-use Rattle.mr74.specs.Checks.{lengthChecks, lsfChecks, pitchChecks, gainChecks, sheetChecks, frameChecks, frameOutcome}
+use Rattle.mr74.specs.Checks.{lengthChecks, lsfChecks, pitchChecks, gainChecks, sheetChecks, frameChecks, frameOutcome, GapsKept}
 
 -- ---- what a group has shown
 pub lengths-accept : (count numbers room : ℕ) → isAccepted (firstMet (lengthChecks count numbers room)) ≡ true → (numbers ≡ count) × (room ≡ 160)
@@ -33,6 +35,20 @@ module _ (sheet : List ℤ) where
   pub lsfs-accept : 10 ≤ length sheet → isAccepted (firstMet (lsfChecks sheet)) ≡ true → Frequencies (lsfsOf sheet)
   lsfs-accept l h =
       in-range-all 10 (pos 16384) (lsfsOf sheet) (length-take-le 10 sheet l) (ltb-false _ 10 (none-met (lsfChecks sheet) tt h .0))
+
+  module _ (h : isAccepted (firstMet (lsfChecks sheet)) ≡ true) where
+    -- 0 before the first
+    gap-at : (k : ℕ) → k < 10 → (at (pos 0 ∷ lsfsOf sheet) k +ℤ pos 205) ≤ℤ at (lsfsOf sheet) k
+    gap-at k l =
+        let n : 10 ≤ firstClose (pos 205) (pos 0) (lsfsOf sheet) = ltb-false _ 10 (none-met (lsfChecks sheet) tt h .1 .0) in
+        in-gaps (pos 205) (pos 0) (lsfsOf sheet) k (omega (arith, n))
+
+    pub gaps-accept : GapsKept sheet
+    gaps-accept =
+        record {
+          first = rw (getD-take 10 sheet 0 (pos 0) (omega arith)) at (gap-at 0 (omega arith));
+          later = λ k l. rw (add-one k) (rw (getD-take 10 sheet (suc k) (pos 0) (omega arith), getD-take 10 sheet k (pos 0) (omega arith)) at (gap-at (suc k) (omega arith)));
+        }
 
   -- the numbers from a place of the sheet on
   ranges-at : (from n : ℕ) (limits : List ℤ) → n ≤ firstOutside (take n (drop from sheet)) limits → (k : ℕ) → k < n → (pos 0 ≤ℤ at sheet (from + k)) × (at sheet (from + k) ≤ℤ at limits k)
@@ -49,7 +65,7 @@ module _ (sheet : List ℤ) where
 
   -- ---- places
   lsfs-placed : Placed (lsfChecks sheet)
-  lsfs-placed = (found-placed Lsf _ 10 (λ k h. omega arith), tt)
+  lsfs-placed = (found-placed Lsf _ 10 (λ k h. omega arith), (found-placed LsfGap _ 10 (λ k h. omega arith), tt))
 
   pitch-placed : Placed (pitchChecks sheet)
   pitch-placed = (found-placed PitchIndex _ 4 (λ k h. omega arith), tt)

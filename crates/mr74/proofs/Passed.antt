@@ -13,13 +13,14 @@ use Rattle.outcome.proofs.Checks.{both-accept}
 use Rattle.state.specs.declared.State.{State}
 use Rattle.state.specs.State.{stateChecks}
 use Rattle.state.proofs.Checks.{InRange, in-range}
-use Rattle.mr74.specs.Checks.{lengthChecks, lsfChecks, pitchChecks, gainChecks, sheetChecks, frameOutcome}
+use Rattle.mr74.specs.Checks.{lengthChecks, lsfChecks, pitchChecks, gainChecks, sheetChecks, frameOutcome, GapsKept, AcceptedGaps}
 use Rattle.mr74.specs.Inner.{Ready}
-use Rattle.mr74.proofs.Groups.{lengths-accept, lsfs-accept, pitch-accept, gains-accept}
+use Rattle.mr74.proofs.Groups.{lengths-accept, lsfs-accept, gaps-accept, pitch-accept, gains-accept}
 
 pub record Passed (sheet : List ℤ) (s : State) (room : ℕ) : Type 0 where
   pub ready : Ready sheet
   pub lent : room ≡ 160
+  pub gaps : GapsKept sheet
   pub gains : (k : ℕ) → k < 8 → pos 0 ≤ℤ at sheet (14 + k)
   pub state : InRange s
 
@@ -42,6 +43,10 @@ passed sheet s room h =
         index-d = index 3 (omega arith);
       };
       lent = lengths .1;
+      gaps = gaps-accept sheet (c .0);
       gains = gains-accept sheet (d .1);
       state = in-range s (b .1);
     }
+
+pub accepted-gaps : AcceptedGaps
+accepted-gaps sheet s room h = passed sheet s room h .gaps

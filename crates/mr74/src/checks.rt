@@ -1,4 +1,4 @@
-// What turns a frame call back: groups of checks, in the frame order 1, 5, 2, 3, 4, 16, 17.
+// What turns a frame call back: groups of checks, in the frame order 1, 5, 2, 6, 3, 4, 16, 17.
 ghost use mathlib.Core.Path.{_≡_};
 ghost use Prim.Native.Nat.{_≤_};
 ghost use lib.ListN.{length};
@@ -8,6 +8,9 @@ use super::SAMPLES;
 use super::SHEET;
 use outcome::Outcome;
 use state::State;
+
+// LSF_GAP of Reorder_lsf.
+const LSF_GAP: i32 = 205;
 
 // 1 and 5: the sheet's count of numbers, and the room for samples.
 fn check_lengths(count: usize, numbers: usize, room: usize) -> Outcome
@@ -22,15 +25,20 @@ fn check_lengths(count: usize, numbers: usize, room: usize) -> Outcome
     Outcome::Accepted
 }
 
-// 2: an LSF outside 0..=16384.
+// 2: an LSF outside 0..=16384. 6: the first LSF below 205, or a later one less than 205 above the one before.
 fn check_lsfs(sheet: &[i16]) -> Outcome
     requires { ⌜ 10 ≤ length (now sheet) ⌝ }
     ensures { λ r. ⌜ r ≡ firstMet (lsfChecks (now (sheet .entry))) ⌝ }
 {
+    let lsfs = &sheet[0..10];
     let limits = [16384i16; 10];
-    let place = outcome::first_outside(&sheet[0..10], &limits);
-    if place < 10 {
-        return Outcome::Lsf(place);
+    let outside = outcome::first_outside(lsfs, &limits);
+    if outside < 10 {
+        return Outcome::Lsf(outside);
+    }
+    let close = outcome::first_close(LSF_GAP, lsfs);
+    if close < 10 {
+        return Outcome::LsfGap(close);
     }
     Outcome::Accepted
 }
@@ -77,7 +85,7 @@ fn check_sheet(sheet: &[i16]) -> Outcome
     check_gains(sheet)
 }
 
-// In the frame order 1, 5, 2, 3, 4, 16, 17.
+// In the frame order 1, 5, 2, 6, 3, 4, 16, 17.
 pub fn check_frame(sheet: &[i16], state: State, room: usize) -> Outcome
     ensures { λ r. ⌜ r ≡ frameOutcome (now (sheet .entry)) state room ⌝ }
 {

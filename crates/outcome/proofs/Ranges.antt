@@ -56,7 +56,7 @@ module _ {xs limits : List ℤ} {i : ℕ} (s : Searching xs limits i) where
       omega (arith, r)
 
 -- ---- where none is found, every number lies in its range
-one-more : (b : Bool) (n k : ℕ) → suc k ≤ cond b (suc n) 0 → (b ≡ true) × (k ≤ n)
+pub one-more : (b : Bool) (n k : ℕ) → suc k ≤ cond b (suc n) 0 → (b ≡ true) × (k ≤ n)
 one-more true n k h = (refl, omega arith)
 one-more false n k h = absurd (omega arith)
 

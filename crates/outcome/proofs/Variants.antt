@@ -5,7 +5,7 @@ use Prim.Native.Nat.{_<_}
 use native.Mathlib.Omega.{arith}
 use borrow.Author.Tests.{eqb-true}
 use Rattle.outcome.specs.declared.Outcome.{Outcome}
-use Rattle.outcome.specs.declared.Outcome.the-variants.{Accepted, SheetLength, Lsf, PitchIndex, Gain, OutputLength, RecordShort, Tag, Version, Layout, BodyShort, Sharpening, SmoothedGain}
+use Rattle.outcome.specs.declared.Outcome.the-variants.{Accepted, SheetLength, Lsf, PitchIndex, Gain, OutputLength, LsfGap, RecordShort, Tag, Version, Layout, BodyShort, Sharpening, SmoothedGain}
 use Rattle.outcome.specs.Outcome.{numberOf, placeOf, isAccepted}
 
 record Fact (o : Outcome) : Type 0 where
@@ -21,6 +21,7 @@ fact (Lsf place) = record { number = omega arith; place = λ e. omega arith }
 fact (PitchIndex place) = record { number = omega arith; place = λ e. omega arith }
 fact (Gain place) = record { number = omega arith; place = λ e. omega arith }
 fact OutputLength = record { number = omega arith; place = λ e. omega arith }
+fact (LsfGap place) = record { number = omega arith; place = λ e. omega arith }
 fact RecordShort = record { number = omega arith; place = λ e. omega arith }
 fact Tag = record { number = omega arith; place = λ e. omega arith }
 fact Version = record { number = omega arith; place = λ e. omega arith }

@@ -1,9 +1,9 @@
--- Checks that are tested in order, and the search for the first number outside its range.
+-- Checks that are tested in order, and two searches: for the first number outside its range, and for the first that is too close to the one before.
 use mathlib.Core.Bool.{Bool, cond, not, _||_}
 use mathlib.Core.List.{List, [], _∷_}
 use Prim.Native.Nat.{ℕ, suc}
 use lib.Dec.{ltb}
-use lib.IntN.{ℤ, pos}
+use lib.IntN.{ℤ, pos, _-ℤ_}
 use lib.Signed.{ltZ}
 use Rattle.outcome.specs.declared.Outcome.{Outcome}
 use Rattle.outcome.specs.declared.Outcome.the-variants.{Accepted}
@@ -35,3 +35,13 @@ unfoldable pub firstOutside : List ℤ → List ℤ → ℕ
 firstOutside [] limits = 0
 firstOutside (number ∷ numbers) [] = 0
 firstOutside (number ∷ numbers) (limit ∷ limits) = cond (within limit number) (suc (firstOutside numbers limits)) 0
+
+-- ---- numbers that rise by a gap
+-- a number lies at least `gap` above the one before it
+abbrev pub apart : ℤ → ℤ → ℤ → Bool
+apart gap before number = not (ltZ (number -ℤ before) gap)
+
+-- the place of the first number less than `gap` above the one before it, the count where none is; before the first stands `before`
+unfoldable pub firstClose : ℤ → ℤ → List ℤ → ℕ
+firstClose gap before [] = 0
+firstClose gap before (number ∷ numbers) = cond (apart gap before number) (suc (firstClose gap number numbers)) 0

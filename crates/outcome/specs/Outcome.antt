@@ -1,12 +1,12 @@
--- Refusals: document 01, "Turned back by the sheet" and "Turned back by the state".
+-- Refusals: document 01, "Turned back by the sheet" and "Turned back by the state", and document 02, 3/13 (number 6).
 use mathlib.Core.Bool.{Bool}
 use Prim.Native.Nat.{ℕ}
 use lib.Dec.{eqb}
 use Rattle.outcome.specs.declared.Outcome.{Outcome}
-use Rattle.outcome.specs.declared.Outcome.the-variants.{Accepted, SheetLength, Lsf, PitchIndex, Gain, OutputLength}
+use Rattle.outcome.specs.declared.Outcome.the-variants.{Accepted, SheetLength, Lsf, PitchIndex, Gain, OutputLength, LsfGap}
 use Rattle.outcome.specs.declared.Outcome.the-variants.{RecordShort, Tag, Version, Layout, BodyShort, Sharpening, SmoothedGain}
 
--- the paper's number, and 0 for what is accepted
+-- the papers' number, and 0 for what is accepted
 abbrev pub numberOf : Outcome → ℕ
 numberOf Accepted = 0
 numberOf SheetLength = 1
@@ -14,6 +14,7 @@ numberOf (Lsf place) = 2
 numberOf (PitchIndex place) = 3
 numberOf (Gain place) = 4
 numberOf OutputLength = 5
+numberOf (LsfGap place) = 6
 numberOf RecordShort = 11
 numberOf Tag = 12
 numberOf Version = 13
@@ -22,7 +23,7 @@ numberOf BodyShort = 15
 numberOf Sharpening = 16
 numberOf SmoothedGain = 17
 
--- document 01's place of a refusal
+-- the papers' place of a refusal
 abbrev pub placeOf : Outcome → ℕ
 placeOf Accepted = 0
 placeOf SheetLength = 0
@@ -30,6 +31,7 @@ placeOf (Lsf place) = place
 placeOf (PitchIndex place) = place
 placeOf (Gain place) = place
 placeOf OutputLength = 0
+placeOf (LsfGap place) = place
 placeOf RecordShort = 0
 placeOf Tag = 0
 placeOf Version = 0

@@ -1,10 +1,11 @@
 // Refusals: what turns a call back, with its number and its place.
 ghost use mathlib.Core.Path.{_≡_};
+ghost use lib.IntN.{pos};
 ghost use lib.ListN.{length};
 ghost use Rattle.outcome.specs.Outcome.{numberOf, placeOf, isAccepted};
-ghost use Rattle.outcome.specs.Checks.{firstOutside};
+ghost use Rattle.outcome.specs.Checks.{firstOutside, firstClose};
 
-// Document 01's refusals, by its numbers. A place goes with 2, 3 and 4.
+// Document 01's refusals and document 02's, by their numbers. A place goes with 2, 3, 4 and 6.
 pub enum Outcome {
     Accepted,
     // 1
@@ -17,6 +18,8 @@ pub enum Outcome {
     Gain(usize),
     // 5
     OutputLength,
+    // 6
+    LsfGap(usize),
     // 11
     RecordShort,
     // 12
@@ -45,6 +48,7 @@ impl Outcome {
             Outcome::PitchIndex(_) => 3,
             Outcome::Gain(_) => 4,
             Outcome::OutputLength => 5,
+            Outcome::LsfGap(_) => 6,
             Outcome::RecordShort => 11,
             Outcome::Tag => 12,
             Outcome::Version => 13,
@@ -66,6 +70,7 @@ impl Outcome {
             Outcome::PitchIndex(place) => place,
             Outcome::Gain(place) => place,
             Outcome::OutputLength => 0,
+            Outcome::LsfGap(place) => place,
             Outcome::RecordShort => 0,
             Outcome::Tag => 0,
             Outcome::Version => 0,
@@ -99,6 +104,23 @@ pub fn first_outside(numbers: &[i16], limits: &[i16]) -> usize
         if limit < number {
             return i;
         }
+        i += 1;
+    }
+    i
+}
+
+// The place of the first number less than `gap` above the one before it, the count where none is; before the first stands 0.
+pub fn first_close(gap: i32, numbers: &[i16]) -> usize
+    ensures { λ r. ⌜ r ≡ firstClose gap (pos 0) (now (numbers .entry)) ⌝ }
+{
+    let mut before = 0;
+    let mut i = 0;
+    while i < numbers.len() {
+        let number = numbers[i] as i32;
+        if number - before < gap {
+            return i;
+        }
+        before = number;
         i += 1;
     }
     i

@@ -121,7 +121,7 @@ fn main() {
     file(b"synthesis.bin", 10, 112);
     file(b"postfilter.bin", 11, 408);
     file(b"frame_kept.bin", 12, 784);
-    file(b"frame_broken.bin", 12, 784);
+    file(b"frame_extreme.bin", 12, 784);
     file(b"refused.bin", 15, 385);
     file(b"record_read.bin", 13, 410);
     file(b"record_write.bin", 14, 400);

@@ -171,8 +171,8 @@ fn means() {
     );
 }
 
-// the shift report of a lent input: as many bytes of document 01's listing, which has a zero record, a zero sheet, one with only LSF 9 = 16385, and a byte
-fn report_of(count: usize) {
+// document 01's listing: a zero record, a zero sheet, one with only LSF 9 = 16385, and a byte
+fn listing() -> [u8; 1131] {
     let mut input = [0u8; 1131];
     input[394] = 0x4D;
     input[395] = 0x37;
@@ -182,8 +182,22 @@ fn report_of(count: usize) {
     input[400] = 0xC5;
     input[784] = 0x01;
     input[785] = 0x40;
+    input
+}
+
+// the same with LSFs 256 apart in its first sheet
+fn spaced(listing: [u8; 1131]) -> [u8; 1131] {
+    let mut input = listing;
+    for i in 0..10 {
+        input[403 + 2 * i] = (i + 1) as u8;
+    }
+    input
+}
+
+// the shift report of so many bytes of a lent input
+fn report_of(input: &[u8], count: usize) {
     let mut text = [0u8; LINE_ROOM];
-    if count <= 1131 {
+    if count <= input.len() {
         let end = totals::report(&mut text, &input[0..count]);
         io::write_all(STDOUT_FILENO, b"report of ");
         io::print_decimal(STDOUT_FILENO, count as u64);
@@ -193,10 +207,14 @@ fn report_of(count: usize) {
 }
 
 fn reports() {
-    report_of(0);
-    report_of(402);
-    report_of(766);
-    report_of(1131);
+    let input = listing();
+    report_of(&input, 0);
+    report_of(&input, 402);
+    report_of(&input, 766);
+    report_of(&input, 1131);
+    let apart = spaced(input);
+    report_of(&apart, 766);
+    report_of(&apart, 1131);
 }
 
 fn main() {

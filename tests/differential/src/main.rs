@@ -19,13 +19,14 @@ use reference::{
 };
 use std::{env, process::ExitCode};
 
-/// The kinds of chains: sheets, and how often a chain begins anew from a drawn state.
+/// The kinds of chains: sheets, and how often a chain begins anew from a drawn state. LSFs keep the gap; with the two
+/// kinds that say so they break it in one sheet of twenty.
 const KINDS: [(&str, u64); 6] = [
-    ("speech, gaps kept", 1000),
-    ("loud, gaps kept", 500),
-    ("any gains and innovation, gaps kept", 100),
-    ("any gains and innovation, gaps broken", 100),
-    ("extreme sheets, extreme states", 12),
+    ("speech", 1000),
+    ("loud", 500),
+    ("any gains and innovation", 100),
+    ("LSFs at their closest or spread, some broken", 100),
+    ("extreme sheets, some broken, extreme states", 12),
     ("all kinds in turn", 300),
 ];
 
@@ -44,8 +45,10 @@ fn drawn(random: &mut Random, kind: usize) -> Vec<i16> {
             draw::sheet(random, lsf, Loudness::Any)
         }
         3 => {
-            let lsf = draw::broken(random);
-            draw::sheet(random, lsf, Loudness::Any)
+            let draw = random.of(&[draw::spread, draw::closest]);
+            let lsf = some_broken(random, draw);
+            let loudness = random.of(&[Loudness::Speech, Loudness::Any]);
+            draw::sheet(random, lsf, loudness)
         }
         4 => extreme(random),
         _ => {
@@ -55,14 +58,26 @@ fn drawn(random: &mut Random, kind: usize) -> Vec<i16> {
     }
 }
 
+/// LSFs as drawn; in one sheet of twenty they break the gap.
+fn some_broken(random: &mut Random, draw: fn(&mut Random) -> [i16; LSFS]) -> [i16; LSFS] {
+    if !random.once_in(20) {
+        return draw(random);
+    }
+    match random.range(0, 2) {
+        0 => [random.of(&[0, 16384]); LSFS],
+        1 => {
+            let lsf = std::array::from_fn(|_| random.of(&[0, 16384]));
+            assert!(draw::first_close(&lsf).is_some());
+            lsf
+        }
+        _ => draw::broken(random),
+    }
+}
+
 /// LSFs, indices, gains and innovation at their ends.
 fn extreme(random: &mut Random) -> Vec<i16> {
-    let lsf = match random.range(0, 3) {
-        0 => [random.of(&[0, 16384]); LSFS],
-        1 => std::array::from_fn(|_| random.of(&[0, 16384])),
-        2 => draw::broken(random),
-        _ => draw::kept(random),
-    };
+    let draw = random.of(&[draw::kept, draw::closest, draw::closest]);
+    let lsf = some_broken(random, draw);
     let mut sheet = draw::sheet(random, lsf, Loudness::Any);
     for subframe in 0..4 {
         sheet[at::PITCH + subframe] = random.of(&[0, if subframe % 2 == 0 { 255 } else { 31 }]);
@@ -82,16 +97,7 @@ fn opening(random: &mut Random, kind: usize) -> Vec<i16> {
     match kind {
         0 if random.once_in(2) => vec![0; STATE],
         0 | 1 => draw::state(random, 3000),
-        4 => {
-            let same = random.of(&[-32768, 32767]);
-            let all = random.once_in(2);
-            let mut state: Vec<i16> = (0..STATE)
-                .map(|_| if all { same } else { random.edge() })
-                .collect();
-            state[at::SHARPENING] = random.of(&[0, 13017]);
-            state[at::GAIN] = random.of(&[0, 32767]);
-            state
-        }
+        4 => draw::extreme_state(random),
         _ => {
             let limit = draw::level(random);
             draw::state(random, limit)
@@ -99,18 +105,23 @@ fn opening(random: &mut Random, kind: usize) -> Vec<i16> {
     }
 }
 
-/// Puts a number outside its range into a sheet.
+/// Puts a number outside its range into a sheet, or an LSF too close to the one before.
 fn damage(random: &mut Random, sheet: &mut [i16]) {
     let negative = random.of(&[-1, -2, -32768]);
     let beyond = random.of(&[1, 2, 1000]);
-    match random.range(0, 2) {
+    match random.range(0, 3) {
         0 => sheet[random.range(0, 9) as usize] = random.of(&[negative, 16384 + beyond, 32767]),
         1 => {
             let subframe = random.range(0, 3) as usize;
             let last = if subframe.is_multiple_of(2) { 255 } else { 31 };
             sheet[at::PITCH + subframe] = random.of(&[negative, last + beyond, 32767]);
         }
-        _ => sheet[at::GAINS + random.range(0, 7) as usize] = negative,
+        2 => sheet[at::GAINS + random.range(0, 7) as usize] = negative,
+        _ => {
+            let place = random.range(0, 9) as usize;
+            let before = if place == 0 { 0 } else { sheet[place - 1] };
+            sheet[place] = before.saturating_add(random.of(&[204, 203, 1, 0, -1]));
+        }
     }
 }
 
@@ -192,7 +203,7 @@ fn agrees(lent: &Lent, wanted: &Decoded) -> bool {
 /// runs along with the chain. A damaged sheet is refused, and the source's decoder stays where it is.
 fn by_source(tally: &mut Tally, random: &mut Random, frames: u64) {
     const TURNS: u64 = 300;
-    let name = "innovation and gains by the source from random indices, gaps kept";
+    let name = "innovation and gains by the source from random indices";
     let start = |random: &mut Random| {
         let state = opening(random, 0);
         (Lent::new(&state, 0), Source::new(&part(&state, 0)))
@@ -321,6 +332,17 @@ fn limits(tally: &mut Tally, random: &mut Random) {
             same(&mut Lent::new(&state, 0x5A), &bytes(&sheet))
         },
     );
+    let cases = (0..LSFS).flat_map(|place| (-206..=206).map(move |above| (place, above)));
+    let lsf = draw::closest(random);
+    let closest = draw::sheet(random, lsf, Loudness::Speech);
+    all(tally, "LSFs about the gap", cases, |&(place, above)| {
+        [&sheet, &closest].into_iter().all(|sheet| {
+            let mut sheet = sheet.clone();
+            let before = if place == 0 { 0 } else { sheet[place - 1] };
+            sheet[place] = before + above;
+            same(&mut Lent::new(&state, 0x5A), &bytes(&sheet))
+        })
+    });
     let numbers = [-32768, -1, 0, 1, 13016, 13017, 13018, 32766, 32767];
     let cases = numbers
         .iter()

@@ -2,11 +2,10 @@
 //! drawn and kept only if they show what the kept ones show too seldom.
 
 use crate::{
-    FRAME, LSFS, MEMORY, PAST, ROW, SHEET, STATE, SUBFRAME, SUBFRAMES, at,
-    files::{BYTE_AREA, File, Kind, LAGS, PREVIOUS, SHEET_AREA, from_long},
-    frame::{self, Answer},
+    FRAME, LSF_GAP, LSFS, MEMORY, PAST, ROW, SHEET, STATE, SUBFRAME, SUBFRAMES, at,
+    files::{BROKEN, BYTE_AREA, File, Kind, LAGS, PREVIOUS, SHEET_AREA, from_long},
     model::{Fault, Trace},
-    mr74::stages,
+    mr74::stages::{self, Decoded},
     part,
     random::Random,
     record,
@@ -136,15 +135,29 @@ fn signal<const N: usize>(random: &mut Random) -> [i16; N] {
     }
 }
 
-/// First at least 205, each later one at least 205 above the one before, none above 16384.
-pub fn gaps_kept(lsf: &[i16]) -> bool {
-    let gaps = lsf.windows(2).all(|pair| pair[1] - pair[0] >= 205);
-    lsf[0] >= 205 && gaps && lsf[LSFS - 1] <= 16384
+/// The first LSF that breaks the gap, in document 02's words: the first is at least 205, and each
+/// later one at least 205 above the one before.
+pub fn first_close(lsf: &[i16]) -> Option<usize> {
+    let close = |place: usize| {
+        let before = if place == 0 {
+            0
+        } else {
+            i32::from(lsf[place - 1])
+        };
+        i32::from(lsf[place]) - before < i32::from(LSF_GAP)
+    };
+    (0..LSFS).find(|&place| close(place))
 }
 
-const SLACK: i16 = 16384 - 10 * 205;
+const SLACK: i16 = 16384 - 10 * LSF_GAP;
 
-/// LSFs with their gaps kept: 205 apart, and sorted slack on top.
+/// LSFs 205 apart, with slack on top, which never falls.
+fn with_slack(mut slack: [i16; LSFS]) -> [i16; LSFS] {
+    slack.sort_unstable();
+    std::array::from_fn(|index| LSF_GAP * (index as i16 + 1) + slack[index].clamp(0, SLACK))
+}
+
+/// LSFs with their gaps kept.
 pub fn kept(random: &mut Random) -> [i16; LSFS] {
     let (low, high) = match random.range(0, 9) {
         0 => (0, 0),
@@ -155,17 +168,25 @@ pub fn kept(random: &mut Random) -> [i16; LSFS] {
         }
         _ => (0, SLACK),
     };
-    let mut slack: [i16; LSFS] = numbers(|| random.word(low, high));
-    slack.sort_unstable();
-    std::array::from_fn(|index| 205 * (index as i16 + 1) + slack[index])
+    with_slack(numbers(|| random.word(low, high)))
+}
+
+/// LSFs as close to one another as the gap lets them: all at the lower end (205, 410, ..), all at
+/// the upper end (14539, .. 16384) or one below it, all somewhere between, or some at each.
+pub fn closest(random: &mut Random) -> [i16; LSFS] {
+    let slacks = [0, SLACK - 1, SLACK, random.word(0, SLACK)];
+    if random.once_in(2) {
+        with_slack([random.of(&slacks); LSFS])
+    } else {
+        with_slack(numbers(|| random.of(&slacks)))
+    }
 }
 
 /// LSFs as speech has them: spread over the band, and each a little off its place.
 pub fn spread(random: &mut Random) -> [i16; LSFS] {
-    let mut slack: [i16; LSFS] =
-        std::array::from_fn(|index| 1300 * index as i16 + 400 + random.word(-600, 600));
-    slack.sort_unstable();
-    std::array::from_fn(|index| 205 * (index as i16 + 1) + slack[index].clamp(0, SLACK))
+    with_slack(std::array::from_fn(|index| {
+        1300 * index as i16 + 400 + random.word(-600, 600)
+    }))
 }
 
 /// LSFs with a gap broken.
@@ -188,7 +209,7 @@ pub fn broken(random: &mut Random) -> [i16; LSFS] {
             _ => lsf = numbers(|| random.word(0, 16384)),
         }
         let inside = lsf.iter().all(|frequency| (0..=16384).contains(frequency));
-        if inside && !gaps_kept(&lsf) {
+        if inside && first_close(&lsf).is_some() {
             return lsf;
         }
     }
@@ -725,17 +746,27 @@ pub fn state(random: &mut Random, limit: i16) -> Vec<i16> {
     state.to_vec()
 }
 
-/// An accepted call.
-fn called(record: &[i16]) -> Answer {
-    let mut out = [0; FRAME];
-    let answer = frame::frame(&record[..SHEET], &part(record, SHEET), &mut out);
-    assert_eq!(answer.refusal, 0, "drawn frames are accepted");
-    answer
+/// The extreme numbers of a state: one of them throughout, or edges. Previous LSPs of any kind.
+pub fn extreme_state(random: &mut Random) -> Vec<i16> {
+    let same = random.of(&[-32768, 32767]);
+    let all = random.once_in(2);
+    let mut state: [i16; STATE] = numbers(|| if all { same } else { random.edge() });
+    if random.once_in(2) {
+        state[..LSFS].copy_from_slice(&spectrum(random));
+    }
+    state[at::SHARPENING] = random.of(&[0, 13017]);
+    state[at::GAIN] = random.of(&[0, 32767]);
+    state.to_vec()
 }
 
-/// The state after an accepted call.
+/// What the source's chain gives, with no check before it.
+fn decoded(record: &[i16]) -> Decoded {
+    stages::decode(&part(record, 0), &part(record, SHEET))
+}
+
+/// The state after that.
 fn after(record: &[i16]) -> Vec<i16> {
-    called(record).state.to_vec()
+    decoded(record).state.to_vec()
 }
 
 /// Two kinds of retry that random frames do not meet.
@@ -860,12 +891,23 @@ fn chain(chosen: &mut Chosen, sheets: impl IntoIterator<Item = Vec<i16>>, state:
     }
 }
 
-fn frames(file: &File, random: &mut Random, size: usize, enough: usize, keep: bool) -> Records {
+/// How the frames of a file are drawn.
+#[derive(Clone, Copy, PartialEq)]
+enum Frames {
+    Kept,
+    /// Gaps kept, LSFs at their closest, extreme states.
+    Extreme,
+    /// Gaps broken: what a decoder that does not test them would make of such sheets.
+    Broken,
+}
+
+fn frames(file: &File, random: &mut Random, size: usize, enough: usize, frames: Frames) -> Records {
     let mut chosen = Chosen::new(file);
-    let lsf = |random: &mut Random, ordinary: bool| match (keep, ordinary) {
-        (true, true) => spread(random),
-        (true, false) => kept(random),
-        (false, _) => broken(random),
+    let lsf = |random: &mut Random, ordinary: bool| match (frames, ordinary) {
+        (Frames::Kept, true) => spread(random),
+        (Frames::Kept, false) | (Frames::Extreme, true) => kept(random),
+        (Frames::Extreme, false) => closest(random),
+        (Frames::Broken, _) => broken(random),
     };
     let zero = vec![0; STATE];
     let mut silent = vec![0; SHEET];
@@ -895,7 +937,13 @@ fn frames(file: &File, random: &mut Random, size: usize, enough: usize, keep: bo
         let ordinary = random.once_in(2);
         let lsf = lsf(random, ordinary);
         let limit = level(random);
-        [sheet(random, lsf, loudness), state(random, limit)].concat()
+        let sheet = sheet(random, lsf, loudness);
+        let state = if frames == Frames::Extreme && random.once_in(2) {
+            extreme_state(random)
+        } else {
+            state(random, limit)
+        };
+        [sheet, state].concat()
     };
     for _ in 0..size {
         chosen.put(candidate(random, Loudness::Any));
@@ -911,7 +959,12 @@ fn frames(file: &File, random: &mut Random, size: usize, enough: usize, keep: bo
     for _ in 0..4000 {
         chosen.offer(any(), enough);
     }
-    chosen.complete(&mut any, |_, record| called(record).places.contains(&39));
+    let from = if frames == Frames::Extreme { 0 } else { 39 };
+    for place in from..=39 {
+        chosen.complete(&mut any, |_, record| {
+            decoded(record).places.contains(&place)
+        });
+    }
     for fault in UNSOUGHT_FAULTS {
         chosen.complete(&mut any, |chosen, record| chosen.gives_away(fault, record));
     }
@@ -919,15 +972,19 @@ fn frames(file: &File, random: &mut Random, size: usize, enough: usize, keep: bo
 }
 
 pub fn frame_kept(file: &File, random: &mut Random) -> Records {
-    frames(file, random, 12, 2, true)
+    frames(file, random, 12, 2, Frames::Kept)
+}
+
+pub fn frame_extreme(file: &File, random: &mut Random) -> Records {
+    frames(file, random, 5, 1, Frames::Extreme)
 }
 
 pub fn frame_broken(file: &File, random: &mut Random) -> Records {
-    frames(file, random, 5, 1, false)
+    frames(file, random, 5, 1, Frames::Broken)
 }
 
 /// The frame call's order of refusals.
-pub const ORDER: [i16; 7] = [1, 5, 2, 3, 4, 16, 17];
+pub const ORDER: [i16; 8] = [1, 5, 2, 6, 3, 4, 16, 17];
 
 /// Every row of the order that a record of `refused.bin` meets, whatever comes before it.
 pub fn refusals(record: &[i16]) -> Vec<i16> {
@@ -938,6 +995,7 @@ pub fn refusals(record: &[i16]) -> Vec<i16> {
         record[0] != SHEET as i16,
         record[1] != FRAME as i16,
         sheet[..LSFS].iter().any(|lsf| !(0..=16384).contains(lsf)),
+        first_close(sheet).is_some(),
         pitch
             .into_iter()
             .any(|(subframe, index)| !(0..=last(subframe)).contains(index)),
@@ -965,6 +1023,11 @@ fn spoil(record: &mut [i16], number: i16, way: usize) {
         }
         5 => record[1] = pick(&[159, 161, 0, 1, 162]),
         2 => record[2 + way % LSFS] = pick(&[16385, -1, 32767, -32768, 16386, -2, 20000]),
+        6 => {
+            let place = 2 + way % LSFS;
+            let before = if place == 2 { 0 } else { record[place - 1] };
+            record[place] = (before + pick(&[204, 0, -1, 1, 203, -300, 100])).max(0);
+        }
         3 => {
             let subframe = way % SUBFRAMES;
             let last = if subframe.is_multiple_of(2) { 255 } else { 31 };
@@ -979,18 +1042,32 @@ fn spoil(record: &mut [i16], number: i16, way: usize) {
 
 pub fn refused(_: &File, random: &mut Random) -> Records {
     let mut records = Records::new();
-    let mut call = |random: &mut Random, spoils: &[(i16, usize)]| {
+    let whole = |sheet: &[i16], state: &[i16]| {
         let mut record = vec![SHEET as i16, FRAME as i16];
-        let lsf = kept(random);
-        record.extend(sheet(random, lsf, Loudness::Speech));
+        record.extend(sheet);
         record.resize(2 + SHEET_AREA, 0);
-        record.extend(state(random, 3000));
+        record.extend(state);
+        record
+    };
+    let mut call = |random: &mut Random, spoils: &[(i16, usize)]| {
+        let lsf = kept(random);
+        let sheet = sheet(random, lsf, Loudness::Speech);
+        let mut record = whole(&sheet, &state(random, 3000));
         for &(number, way) in spoils {
             spoil(&mut record, number, way);
         }
         records.push(record);
     };
-    for (number, ways) in [(1, 5), (5, 5), (2, 10), (3, 10), (4, 8), (16, 4), (17, 2)] {
+    for (number, ways) in [
+        (1, 5),
+        (5, 5),
+        (2, 10),
+        (6, 20),
+        (3, 10),
+        (4, 8),
+        (16, 4),
+        (17, 2),
+    ] {
         for way in 0..ways {
             call(random, &[(number, way)]);
         }
@@ -1003,9 +1080,15 @@ pub fn refused(_: &File, random: &mut Random) -> Records {
         }
     }
     // Two places of the same row: the first is named.
-    for (number, ways) in [(2, [3, 7]), (3, [1, 3]), (4, [2, 5])] {
+    for (number, ways) in [(2, [3, 7]), (6, [2, 8]), (3, [1, 3]), (4, [2, 5])] {
         call(random, &[(number, ways[0]), (number, ways[1])]);
     }
+    // Sheets that break the gap and nothing else, from states of every kind.
+    let frames = frame_broken(&BROKEN, &mut Random::new(BROKEN.seed));
+    records.extend(frames.iter().map(|frame| {
+        let (sheet, state) = frame.split_at(SHEET);
+        whole(sheet, state)
+    }));
     records
 }
 

@@ -74,8 +74,8 @@ const PLAIN: RangeInclusive<i16> = 0..=32759;
 const LOUD: RangeInclusive<i16> = 32760..=32767;
 
 /// The sheets of `marks.bin` after the first: each flag alone, each mark, a negative peak,
-/// refusals 2, 3 and 4, two sheets with several, and a last sheet to cut.
-const MARKS: [Wanted; 17] = [
+/// refusals 2, 3, 4 and 6, three sheets with several, and a last sheet to cut.
+const MARKS: [Wanted; 18] = [
     Frame(sheet, [1, 0, 0, 0], PLAIN),
     Frame(sheet, [0, 1, 0, 0], PLAIN),
     Refusal(&[(7, 16385)]),
@@ -92,6 +92,8 @@ const MARKS: [Wanted; 17] = [
     Frame(sheet, [1, 1, 0, 1], PLAIN),
     Refusal(&[(at::PITCH + 1, 32), (at::PITCH + 3, 32), (at::GAINS, -1)]),
     Frame(sheet, [0, 0, 0, 0], PLAIN),
+    // An LSF of 0 behind others breaks the gap.
+    Refusal(&[(8, 0), (at::PITCH + 1, 32), (at::GAINS, -1)]),
     Frame(sheet, [0, 0, 0, 0], PLAIN),
 ];
 

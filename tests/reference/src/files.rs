@@ -624,24 +624,26 @@ pub static FILES: [File; 17] = [
         faults: &FRAME_FAULTS,
     },
     File {
-        name: "frame_broken.bin",
-        seed: 114,
+        name: "frame_extreme.bin",
+        seed: 119,
         inputs: &FRAME_INPUTS,
         answers: &FRAME_ANSWERS,
-        draw: draw::frame_broken,
+        draw: draw::frame_extreme,
         answer: frame_answer,
         model: frame_model,
         kinds: || {
             let mut kinds = frame_kinds();
-            kinds.push(Kind::Each("place", BROKEN_PLACES.to_vec()));
+            kinds.push(Kind::Each("place", (0..=NOWHERE).collect()));
             kinds.extend(ones(&[
-                "LSF gaps broken",
-                "LSFs out of order",
-                "gap of 204",
-                "first LSF 204",
-                "frequency 0",
+                "LSF gaps kept",
+                "first LSF 205",
+                "gap of 205",
+                "previous LSPs not falling",
+                "previous LSP -32768",
+                "previous LSP 32767",
                 "frequency 16383",
                 "frequency 16384",
+                "polynomial: doubled product clamped",
                 "polynomial: difference clamped",
                 "row: sum clamped",
                 "row: last sum clamped",
@@ -684,6 +686,10 @@ pub static FILES: [File; 17] = [
                 3 => trace.number("refusal 3: place", answer.place),
                 4 => trace.number("refusal 4: place", answer.place),
                 5 => trace.number("refusal 5: length", input[1]),
+                6 => {
+                    trace.number("refusal 6: place", answer.place);
+                    mark_gaps(trace, &sheet[..LSFS]);
+                }
                 _ => {}
             }
             // Which later rows of the order the call meets too.
@@ -698,15 +704,19 @@ pub static FILES: [File; 17] = [
             let pairs = (0..order.len())
                 .flat_map(|first| (first + 1..order.len()).map(move |later| (first, later)))
                 .map(|(first, later)| 100 * order[first] + order[later]);
-            vec![
+            let mut kinds = vec![
                 Kind::Each("refusal", order.to_vec()),
                 Kind::Each("refusal 1: length", vec![0, 1, 181, 183, 184]),
                 Kind::Each("refusal 2: place", (0..10).collect()),
                 Kind::Each("refusal 3: place", (0..4).collect()),
                 Kind::Each("refusal 4: place", (0..8).collect()),
                 Kind::Each("refusal 5: length", vec![0, 1, 159, 161, 162]),
+                Kind::Each("refusal 6: place", (0..10).collect()),
                 Kind::Each("refusal before a later one", pairs.collect()),
-            ]
+            ];
+            kinds.extend(ones(&BROKEN_KINDS));
+            kinds.push(Kind::One("first LSF 0"));
+            kinds
         },
         published: false,
         faults: &[],
@@ -806,6 +816,40 @@ pub static FILES: [File; 17] = [
     },
 ];
 
+/// Not a file: frames whose LSFs break the gap, searched for what a decoder that does not test it
+/// would do with them. Each is a refused call of `refused.bin`.
+pub static BROKEN: File = File {
+    name: "broken",
+    seed: 114,
+    inputs: &FRAME_INPUTS,
+    answers: &FRAME_ANSWERS,
+    draw: draw::frame_broken,
+    answer: decoded_answer,
+    model: frame_model,
+    kinds: || {
+        let mut kinds = frame_kinds();
+        kinds.extend(ones(&BROKEN_KINDS));
+        kinds.extend(ones(&[
+            "frequency 0",
+            "frequency 16383",
+            "frequency 16384",
+            "polynomial: difference clamped",
+            "row: sum clamped",
+            "row: last sum clamped",
+        ]));
+        kinds
+    },
+    published: true,
+    faults: &FRAME_FAULTS,
+};
+
+const BROKEN_KINDS: [&str; 4] = [
+    "LSF gaps broken",
+    "LSFs out of order",
+    "gap of 204",
+    "first LSF 204",
+];
+
 static FRAME_INPUTS: [Field; 2] = [words("sheet", SHEET), words("state", STATE)];
 static FRAME_ANSWERS: [Field; 4] = [
     words("samples", FRAME),
@@ -814,36 +858,49 @@ static FRAME_ANSWERS: [Field; 4] = [
     words("next state", STATE),
 ];
 
-fn frame_answer(input: &[i16]) -> Vec<i16> {
-    let mut samples = [0; FRAME];
-    let (sheet, state) = input.split_at(SHEET);
-    let answer = frame::frame(sheet, &part(state, 0), &mut samples);
-    assert_eq!(answer.refusal, 0);
-    let mut words = samples.to_vec();
-    words.extend(answer.places);
-    words.extend(answer.rows.as_flattened());
-    words.extend(answer.state);
+/// What the source's chain gives, with no check before it.
+fn decoded_answer(input: &[i16]) -> Vec<i16> {
+    let decoded = stages::decode(&part(input, 0), &part(input, SHEET));
+    let mut words = decoded.samples.to_vec();
+    words.extend(decoded.places);
+    words.extend(decoded.rows.as_flattened());
+    words.extend(decoded.state);
     words
+}
+
+/// The frame call's answer: it accepts, and decodes.
+fn frame_answer(input: &[i16]) -> Vec<i16> {
+    let (sheet, state) = input.split_at(SHEET);
+    let answer = frame::frame(sheet, &part(state, 0), &mut [0; FRAME]);
+    assert_eq!(answer.refusal, 0);
+    decoded_answer(input)
 }
 
 fn frame_model(trace: &mut Trace, input: &[i16]) -> Vec<i16> {
     let (sheet, state) = input.split_at(SHEET);
-    let lsf = &sheet[..LSFS];
-    let kept = draw::gaps_kept(lsf);
-    trace.mark_if(kept, "LSF gaps kept");
-    trace.mark_if(!kept, "LSF gaps broken");
-    trace.mark_if(
-        lsf.windows(2).any(|pair| pair[0] > pair[1]),
-        "LSFs out of order",
-    );
-    trace.mark_if(
-        lsf.windows(2).any(|pair| pair[1] - pair[0] == 204),
-        "gap of 204",
-    );
-    trace.mark_if(lsf[0] == 204, "first LSF 204");
+    mark_gaps(trace, &sheet[..LSFS]);
+    let previous = &state[..LSFS];
+    let falling = previous.windows(2).all(|pair| pair[0] > pair[1]);
+    trace.mark_if(!falling, "previous LSPs not falling");
+    trace.mark_if(previous.contains(&-32768), "previous LSP -32768");
+    trace.mark_if(previous.contains(&32767), "previous LSP 32767");
     trace.mark_if(state.iter().all(|&field| field == 0), "all-zero state");
     mark_extremes(trace, &state[at::PAST..at::SHARPENING]);
     model::frame(trace, sheet, state)
+}
+
+fn mark_gaps(trace: &mut Trace, lsf: &[i16]) {
+    let kept = draw::first_close(lsf).is_none();
+    let gap = |wanted: i16| lsf.windows(2).any(|pair| pair[1] - pair[0] == wanted);
+    let falls = lsf.windows(2).any(|pair| pair[0] > pair[1]);
+    trace.mark_if(kept, "LSF gaps kept");
+    trace.mark_if(!kept, "LSF gaps broken");
+    trace.mark_if(falls, "LSFs out of order");
+    trace.mark_if(gap(204), "gap of 204");
+    trace.mark_if(gap(205), "gap of 205");
+    trace.mark_if(lsf[0] == 0, "first LSF 0");
+    trace.mark_if(lsf[0] == 204, "first LSF 204");
+    trace.mark_if(lsf[0] == 205, "first LSF 205");
 }
 
 fn ones(names: &[&'static str]) -> Vec<Kind> {
@@ -951,12 +1008,9 @@ fn frame_kinds() -> Vec<Kind> {
     kinds
 }
 
-/// The places that the frames show: both ends, none, and what was met between.
+/// The places that the ordinary frames show: both ends, none, and what was met between.
 const KEPT_PLACES: [i16; 25] = [
     0, 1, 2, 3, 4, 5, 6, 8, 9, 10, 12, 14, 15, 17, 18, 21, 23, 28, 31, 32, 34, 37, 38, 39, 40,
-];
-const BROKEN_PLACES: [i16; 21] = [
-    0, 1, 2, 3, 4, 5, 10, 12, 14, 15, 18, 19, 20, 24, 28, 30, 31, 33, 38, 39, 40,
 ];
 
 static FRAME_FAULTS: [Fault; 32] = [

@@ -1,6 +1,6 @@
-//! The frame call: document 01's refusals around the published chain.
+//! The frame call: the papers' refusals around the published chain.
 
-use crate::{FRAME, LSFS, NOWHERE, ROW, SHEET, STATE, SUBFRAMES, at, mr74::stages};
+use crate::{FRAME, LSFS, NOWHERE, ROW, SHEET, STATE, SUBFRAMES, at, mr74::stages, part};
 
 #[derive(Debug, Clone, PartialEq, Eq)]
 pub struct Answer {
@@ -35,7 +35,8 @@ pub fn refused_state(state: &[i16; STATE]) -> Option<i16> {
     }
 }
 
-/// Number and place, in the order 1, 5, 2, 3, 4, 16, 17.
+/// Number and place, in the order 1, 5, 2, 6, 3, 4, 16, 17. The place of 6 is the first LSF that the
+/// source's own gap rule would move.
 fn refused(sheet: &[i16], state: &[i16; STATE], lent: usize) -> Option<(i16, i16)> {
     if sheet.len() != SHEET {
         return Some((1, 0));
@@ -45,6 +46,9 @@ fn refused(sheet: &[i16], state: &[i16; STATE], lent: usize) -> Option<(i16, i16
     }
     if let Some(place) = first(&sheet[..LSFS], |_, lsf| (0..=16384).contains(&lsf)) {
         return Some((2, place));
+    }
+    if let Some(place) = stages::first_moved(&part(sheet, 0)) {
+        return Some((6, place as i16));
     }
     let pitch = |subframe: usize, index: i16| {
         let last = if subframe.is_multiple_of(2) { 255 } else { 31 };

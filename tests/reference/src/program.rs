@@ -11,6 +11,7 @@ use crate::{
     random::Random,
     record, report, sheets,
     tally::Tally,
+    values,
 };
 use process::Program;
 use std::{collections::BTreeSet, fs, path::Path};
@@ -31,18 +32,25 @@ pub fn record_of(state: &[i16]) -> Vec<u8> {
     bytes
 }
 
-/// A sheet that is accepted: gaps kept three times in four.
+/// A sheet that is accepted.
 pub fn sheet(random: &mut Random) -> Vec<i16> {
     let loudness = random.of(&[Loudness::Speech, Loudness::Loud, Loudness::Any]);
     let lsf = match random.range(0, 3) {
-        0 => draw::broken(random),
+        0 => draw::closest(random),
         1 => draw::kept(random),
         _ => draw::spread(random),
     };
     draw::sheet(random, lsf, loudness)
 }
 
-/// One number of an accepted sheet put outside its range: every place of refusals 2, 3 and 4.
+/// An LSF of an accepted sheet put so far above the one before.
+fn put_close(sheet: &mut [i16], place: usize, above: i16) {
+    let before = if place == 0 { 0 } else { sheet[place - 1] };
+    sheet[place] = (before + above).max(0);
+}
+
+/// One number of an accepted sheet put outside its range or too close: every place of refusals 2,
+/// 6, 3 and 4.
 fn refused_sheets(random: &mut Random) -> Vec<Vec<i16>> {
     let mut wrong = Vec::new();
     for place in 0..at::PITCH {
@@ -63,9 +71,20 @@ fn refused_sheets(random: &mut Random) -> Vec<Vec<i16>> {
             sheet
         })
         .collect();
+    for place in 0..at::PITCH {
+        for above in [204, 203, 1, 0, -1, -1000] {
+            let mut sheet = sheet(random);
+            put_close(&mut sheet, place, above);
+            sheets.push(sheet);
+        }
+    }
     // Several refusals at once: the first of them counts.
-    for _ in 0..100 {
+    for number in 0..150 {
         let mut sheet = sheet(random);
+        if number % 3 == 0 {
+            let place = random.range(0, at::PITCH as i64 - 1) as usize;
+            put_close(&mut sheet, place, 204);
+        }
         for _ in 0..3 {
             let (place, number) = random.of(&wrong);
             sheet[place] = number;
@@ -139,7 +158,8 @@ pub fn call(seed: u64, sheets: usize, refusals: i64) -> impl Iterator<Item = Vec
         let mut sheet = sheet(&mut random);
         if random.once_in(refusals) {
             let place = random.range(0, at::INNOVATION as i64 - 1) as usize;
-            sheet[place] = -1;
+            // An LSF of 0 breaks the gap.
+            sheet[place] = if place < at::PITCH { 0 } else { -1 };
         }
         bytes_of(&sheet)
     });
@@ -206,7 +226,9 @@ fn sheets(tally: &mut Tally, programs: &Programs, random: &mut Random) {
     }
     let refused = [refused];
     compare(tally, programs, "refused sheets among others", &refused);
-    let places = [(2, 10), (3, 4), (4, 8)];
+    let gaps = [values::gap_input()];
+    compare(tally, programs, "gaps kept and broken", &gaps);
+    let places = [(2, 10), (6, 10), (3, 4), (4, 8)];
     let wanted = places.iter().flat_map(|&(number, count)| {
         (0..count).map(move |place| format!("refused {number} {place}"))
     });
@@ -222,7 +244,7 @@ fn sheets(tally: &mut Tally, programs: &Programs, random: &mut Random) {
 pub const LOUD_SEED: u64 = 21_810;
 
 fn marks(tally: &mut Tally, programs: &Programs, random: &mut Random) {
-    // Seeds from a search of 1,580,000. It met no peak of 32759 without a retry.
+    // Seeds from a search of 2,000,000. It met no peak of 32759 without a retry.
     for (seed, peak, retried) in [
         (71, 32759, true),
         (199_445, 32760, true),

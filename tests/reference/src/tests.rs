@@ -1,5 +1,5 @@
 use crate::{
-    FRAME, LSFS, ROW, SHEET, STATE, SUBFRAME, SUBFRAMES, at, draw,
+    FRAME, LSF_GAP, LSFS, ROW, SHEET, STATE, SUBFRAME, SUBFRAMES, at, draw,
     files::{self, FILES},
     frame::frame,
     indexed::source::{self, Source},
@@ -110,6 +110,9 @@ fn refused_calls_change_nothing() {
     let mut state = [7; STATE];
     let mut out = [5; FRAME];
     let mut sheet = [0; SHEET];
+    for (lsf, number) in sheet[..LSFS].iter_mut().zip(1..) {
+        *lsf = LSF_GAP * number;
+    }
     sheet[at::GAINS + 3] = -1;
     let answer = frame(&sheet, &state, &mut out);
     assert_eq!((answer.refusal, answer.place), (4, 3));
@@ -123,6 +126,26 @@ fn refused_calls_change_nothing() {
     state[at::SHARPENING] = 13018;
     assert_eq!(frame(&sheet, &state, &mut out).refusal, 16);
     assert_eq!(out, [5; FRAME]);
+}
+
+/// The first LSF that the source's gap rule moves is the first that breaks document 02's gap, and
+/// the rule leaves LSFs that keep it.
+#[test]
+fn gap_rule_is_the_sources() {
+    let mut random = Random::new(76);
+    let mut met = BTreeSet::new();
+    for _ in 0..20_000 {
+        let broken = draw::broken(&mut random);
+        let place = draw::first_close(&broken);
+        assert_eq!(stages::first_moved(&broken), place, "{broken:?}");
+        met.insert(place);
+        for draw in [draw::kept, draw::closest, draw::spread] {
+            let lsf = draw(&mut random);
+            assert_eq!(stages::first_moved(&lsf), None, "{lsf:?}");
+            assert_eq!(draw::first_close(&lsf), None, "{lsf:?}");
+        }
+    }
+    assert!(met.into_iter().eq((0..LSFS).map(Some)));
 }
 
 #[test]

@@ -1,8 +1,10 @@
-//! Document 01's "Values to hold" and its listing of the bench program, against the reference.
+//! Document 01's "Values to hold" and its listing of the bench program, and lines of sheets that
+//! keep the gap and break it, against the reference.
 
 use crate::{
-    LSFS, NOWHERE, ROW, SHEET, SUBFRAME, bench,
+    LSF_GAP, LSFS, NOWHERE, ROW, SHEET, SUBFRAME, at, bench,
     mr74::stages::{self, Lag},
+    program::bytes_of,
     record,
     tally::Tally,
 };
@@ -12,7 +14,7 @@ fn same<T: PartialEq + Debug>(tally: &mut Tally, what: &str, got: T, wanted: T) 
     let text = if got == wanted {
         format!("{what} -> {got:?}")
     } else {
-        format!("{what} -> {got:?}, document 01 has {wanted:?}")
+        format!("{what} -> {got:?}, the papers have {wanted:?}")
     };
     tally.line(got == wanted, &text);
 }
@@ -88,10 +90,15 @@ fn hold(tally: &mut Tally) {
     }
 }
 
+fn zero_record() -> Vec<u8> {
+    let mut bytes = vec![0; record::BODY];
+    bytes.extend([0x4D, 0x37, 0x01, 0x00, 0x8A, 0x01, 0xC5, 0x00]);
+    bytes
+}
+
 /// Input of document 01's listing.
 pub fn listing_input() -> Vec<u8> {
-    let mut input = vec![0; record::BODY];
-    input.extend([0x4D, 0x37, 0x01, 0x00, 0x8A, 0x01, 0xC5, 0x00]);
+    let mut input = zero_record();
     input.extend([0; 2 * SHEET]);
     let mut refused = [0; 2 * SHEET];
     refused[18..20].copy_from_slice(&16385i16.to_le_bytes());
@@ -100,10 +107,63 @@ pub fn listing_input() -> Vec<u8> {
     input
 }
 
-fn listing(tally: &mut Tally) {
-    let got = bench::lines(&listing_input());
-    for (line, wanted) in got.lines().zip(["1 0000 0 -", "2 refused 2 9", "3 cut"]) {
-        same(tally, "the bench program's listing", line, wanted);
+/// A sheet, zero but for its LSFs and these numbers.
+fn sheet_with(lsf: [i16; LSFS], numbers: &[(usize, i16)]) -> Vec<u8> {
+    let mut sheet = [0; SHEET];
+    sheet[..LSFS].copy_from_slice(&lsf);
+    for &(place, number) in numbers {
+        sheet[place] = number;
     }
-    same(tally, "lines of the listing", got.lines().count(), 3);
+    bytes_of(&sheet)
+}
+
+/// A zero record, the two rows of LSFs that lie closest, and sheets that break the gap.
+pub fn gap_input() -> Vec<u8> {
+    let row = |first: i16, gap: i16| std::array::from_fn(|index| first + gap * index as i16);
+    let lowest = row(LSF_GAP, LSF_GAP);
+    let mut input = zero_record();
+    for (lsf, numbers) in [
+        (lowest, &[][..]),
+        (row(14539, LSF_GAP), &[]),
+        (lowest, &[(0, 204)]),
+        (lowest, &[(1, 409)]),
+        ([16384; LSFS], &[]),
+        (lowest, &[(0, 0), (5, -1)]),
+        (row(1400, 1400), &[(3, 4300), (at::PITCH + 1, 32)]),
+    ] {
+        input.extend(sheet_with(lsf, numbers));
+    }
+    input
+}
+
+fn lines(tally: &mut Tally, name: &str, input: &[u8], wanted: &[&str]) {
+    let got = bench::lines(input);
+    for (line, wanted) in got.lines().zip(wanted) {
+        same(tally, name, line, wanted);
+    }
+    let name = format!("lines of {name}");
+    same(tally, &name, got.lines().count(), wanted.len());
+}
+
+fn listing(tally: &mut Tally) {
+    lines(
+        tally,
+        "the bench program's listing",
+        &listing_input(),
+        &["1 refused 6 0", "2 refused 2 9", "3 cut"],
+    );
+    lines(
+        tally,
+        "gaps kept and broken",
+        &gap_input(),
+        &[
+            "1 0000 0 -",
+            "2 0000 0 -",
+            "3 refused 6 0",
+            "4 refused 6 1",
+            "5 refused 6 1",
+            "6 refused 2 5",
+            "7 refused 6 3",
+        ],
+    );
 }

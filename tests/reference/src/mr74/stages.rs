@@ -18,6 +18,13 @@ pub fn lsf_to_lsp(lsf: &[i16; LSFS]) -> Result<[i16; LSFS], usize> {
     })
 }
 
+/// The first frequency that the source's gap rule moves.
+pub fn first_moved(lsf: &[i16; LSFS]) -> Option<usize> {
+    let mut moved = *lsf;
+    spectral::reorder_frequencies(&mut moved);
+    lsf.iter().zip(&moved).position(|(lsf, moved)| lsf != moved)
+}
+
 /// One frequency of 0..=16384.
 pub fn lsp(frequency: i16) -> i16 {
     lsf_to_lsp(&[frequency; LSFS]).expect("the frequency is inside 0..=16384")[0]
@@ -154,7 +161,7 @@ pub struct Decoded {
     pub state: [i16; STATE],
 }
 
-/// Decodes a sheet and a state that no refusal turns back.
+/// Decodes a sheet and a state that no refusal turns back, or a sheet whose LSFs break the gap alone.
 pub fn decode(sheet: &[i16; SHEET], state: &[i16; STATE]) -> Decoded {
     // Three LSF indices, then pitch, pulse positions, pulse signs and gains a subframe. Positions
     // and gains carry the subframe's number, under which the sheet is looked up.

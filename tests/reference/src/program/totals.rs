@@ -119,7 +119,10 @@ impl Files<'_> {
         self.told("a record alone", &record, "0 0 0 0 none\n", record.len());
         let listing = values::listing_input();
         let name = "document 01's listing";
-        self.told(name, &listing, "1 1 0 0 0\n", listing.len());
+        self.told(name, &listing, "0 2 0 0 none\n", listing.len());
+        let gaps = values::gap_input();
+        let name = "two sheets that keep the gap, and five refused ones";
+        self.told(name, &gaps, "2 5 0 0 0\n", gaps.len());
         let mut bad = [&record, loud].concat();
         bad[record::BODY] ^= 1;
         let name = "a refused record before a sheet";
