@@ -11,7 +11,7 @@ use reference::{
 };
 use std::{env, hint::black_box, process::ExitCode, time::Instant};
 
-/// Sheets as speech has them, LSF gaps kept, ordinary gains; or sheets of the largest gains and an innovation at full scale, which
+/// Sheets as speech has them, ordinary gains; or sheets of the largest gains and an innovation at full scale, which
 /// retry nearly every subframe.
 fn drawn(random: &mut Random, retried: bool) -> Vec<i16> {
     let lsf = draw::spread(random);
