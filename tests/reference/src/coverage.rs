@@ -39,7 +39,7 @@ fn count(file: &File, records: &[Vec<i16>], tally: &mut Tally) {
     let text = if file.published {
         format!("{name}: {all} records, the model agrees on {agreed}")
     } else {
-        format!("{name}: {all} records, from document 01 alone")
+        format!("{name}: {all} records, from the papers")
     };
     tally.line(agreed == all, &text);
     for kind in (file.kinds)() {

@@ -271,6 +271,10 @@ pub static FILES: [File; 17] = [
                 "LSP 32767",
                 "old and new the same",
                 "coefficient wraps at 16 bits",
+                "polynomial: doubled product clamped",
+                "polynomial: difference clamped",
+                "row: sum clamped",
+                "row: last sum clamped",
             ])
         },
         published: true,

@@ -13,7 +13,7 @@ pub fn lsf_to_lsp(lsf: &[i16; LSFS]) -> Result<[i16; LSFS], usize> {
     spectral::lsf_to_lsp(lsf).map_err(|error| match error {
         spectral::ConversionError::Frequency { index, .. } => index,
         spectral::ConversionError::UnorderedCosines { .. } => {
-            unreachable!("no order is tested on this way")
+            unreachable!("cosines are refused so, and these are frequencies")
         }
     })
 }
