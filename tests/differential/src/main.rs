@@ -115,8 +115,7 @@ fn damage(random: &mut Random, sheet: &mut [i16]) {
         2 => sheet[at::GAINS + random.range(0, 7) as usize] = negative,
         _ => {
             let place = random.range(0, 9) as usize;
-            let before = if place == 0 { 0 } else { sheet[place - 1] };
-            sheet[place] = before.saturating_add(random.of(&[204, 203, 1, 0, -1]));
+            draw::put_above(sheet, place, random.of(&[204, 203, 1, 0, -1]));
         }
     }
 }
@@ -334,8 +333,7 @@ fn limits(tally: &mut Tally, random: &mut Random) {
     all(tally, "LSFs about the gap", cases, |&(place, above)| {
         [&sheet, &closest].into_iter().all(|sheet| {
             let mut sheet = sheet.clone();
-            let before = if place == 0 { 0 } else { sheet[place - 1] };
-            sheet[place] = before + above;
+            draw::put_above(&mut sheet, place, above);
             same(&mut Lent::new(&state, 0x5A), &bytes(&sheet))
         })
     });

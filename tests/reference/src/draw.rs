@@ -149,6 +149,12 @@ pub fn first_close(lsf: &[i16]) -> Option<usize> {
     (0..LSFS).find(|&place| close(place))
 }
 
+/// Puts an LSF so far above the one before, 0 before the first, and not below 0.
+pub fn put_above(lsf: &mut [i16], place: usize, above: i16) {
+    let before = if place == 0 { 0 } else { lsf[place - 1] };
+    lsf[place] = before.saturating_add(above).max(0);
+}
+
 const SLACK: i16 = 16384 - 10 * LSF_GAP;
 
 /// LSFs 205 apart, with slack on top, which never falls.
@@ -901,9 +907,9 @@ enum Frames {
     Broken,
 }
 
-fn frames(file: &File, random: &mut Random, size: usize, enough: usize, frames: Frames) -> Records {
+fn frames(file: &File, random: &mut Random, size: usize, enough: usize, way: Frames) -> Records {
     let mut chosen = Chosen::new(file);
-    let lsf = |random: &mut Random, ordinary: bool| match (frames, ordinary) {
+    let lsf = |random: &mut Random, ordinary: bool| match (way, ordinary) {
         (Frames::Kept, true) => spread(random),
         (Frames::Kept, false) | (Frames::Extreme, true) => kept(random),
         (Frames::Extreme, false) => closest(random),
@@ -938,7 +944,7 @@ fn frames(file: &File, random: &mut Random, size: usize, enough: usize, frames: 
         let lsf = lsf(random, ordinary);
         let limit = level(random);
         let sheet = sheet(random, lsf, loudness);
-        let state = if frames == Frames::Extreme && random.once_in(2) {
+        let state = if way == Frames::Extreme && random.once_in(2) {
             extreme_state(random)
         } else {
             state(random, limit)
@@ -959,7 +965,7 @@ fn frames(file: &File, random: &mut Random, size: usize, enough: usize, frames: 
     for _ in 0..4000 {
         chosen.offer(any(), enough);
     }
-    let from = if frames == Frames::Extreme { 0 } else { 39 };
+    let from = if way == Frames::Extreme { 0 } else { 39 };
     for place in from..=39 {
         chosen.complete(&mut any, |_, record| {
             decoded(record).places.contains(&place)
@@ -1024,9 +1030,8 @@ fn spoil(record: &mut [i16], number: i16, way: usize) {
         5 => record[1] = pick(&[159, 161, 0, 1, 162]),
         2 => record[2 + way % LSFS] = pick(&[16385, -1, 32767, -32768, 16386, -2, 20000]),
         6 => {
-            let place = 2 + way % LSFS;
-            let before = if place == 2 { 0 } else { record[place - 1] };
-            record[place] = (before + pick(&[204, 0, -1, 1, 203, -300, 100])).max(0);
+            let above = pick(&[204, 0, -1, 1, 203, -300, 100]);
+            put_above(&mut record[2..], way % LSFS, above);
         }
         3 => {
             let subframe = way % SUBFRAMES;

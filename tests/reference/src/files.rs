@@ -645,13 +645,9 @@ pub static FILES: [File; 17] = [
                 "previous LSPs not falling",
                 "previous LSP -32768",
                 "previous LSP 32767",
-                "frequency 16383",
-                "frequency 16384",
                 "polynomial: doubled product clamped",
-                "polynomial: difference clamped",
-                "row: sum clamped",
-                "row: last sum clamped",
             ]));
+            kinds.extend(ones(&ROW_KINDS));
             kinds
         },
         published: true,
@@ -833,19 +829,21 @@ pub static BROKEN: File = File {
     kinds: || {
         let mut kinds = frame_kinds();
         kinds.extend(ones(&BROKEN_KINDS));
-        kinds.extend(ones(&[
-            "frequency 0",
-            "frequency 16383",
-            "frequency 16384",
-            "polynomial: difference clamped",
-            "row: sum clamped",
-            "row: last sum clamped",
-        ]));
+        kinds.push(Kind::One("frequency 0"));
+        kinds.extend(ones(&ROW_KINDS));
         kinds
     },
     published: true,
     faults: &FRAME_FAULTS,
 };
+
+const ROW_KINDS: [&str; 5] = [
+    "frequency 16383",
+    "frequency 16384",
+    "polynomial: difference clamped",
+    "row: sum clamped",
+    "row: last sum clamped",
+];
 
 const BROKEN_KINDS: [&str; 4] = [
     "LSF gaps broken",

@@ -43,12 +43,6 @@ pub fn sheet(random: &mut Random) -> Vec<i16> {
     draw::sheet(random, lsf, loudness)
 }
 
-/// An LSF of an accepted sheet put so far above the one before.
-fn put_close(sheet: &mut [i16], place: usize, above: i16) {
-    let before = if place == 0 { 0 } else { sheet[place - 1] };
-    sheet[place] = (before + above).max(0);
-}
-
 /// One number of an accepted sheet put outside its range or too close: every place of refusals 2,
 /// 6, 3 and 4.
 fn refused_sheets(random: &mut Random) -> Vec<Vec<i16>> {
@@ -74,7 +68,7 @@ fn refused_sheets(random: &mut Random) -> Vec<Vec<i16>> {
     for place in 0..at::PITCH {
         for above in [204, 203, 1, 0, -1, -1000] {
             let mut sheet = sheet(random);
-            put_close(&mut sheet, place, above);
+            draw::put_above(&mut sheet, place, above);
             sheets.push(sheet);
         }
     }
@@ -83,7 +77,7 @@ fn refused_sheets(random: &mut Random) -> Vec<Vec<i16>> {
         let mut sheet = sheet(random);
         if number % 3 == 0 {
             let place = random.range(0, at::PITCH as i64 - 1) as usize;
-            put_close(&mut sheet, place, 204);
+            draw::put_above(&mut sheet, place, 204);
         }
         for _ in 0..3 {
             let (place, number) = random.of(&wrong);
