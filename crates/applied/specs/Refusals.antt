@@ -1,5 +1,6 @@
 -- Calls that each check of the frame order turns back, and the places of refusals. The theorems are `frame-order`, `places` and `gap-places` in
--- proofs/Refusals.antt: each outcome is computed from the definition. `refusals-applied` takes some of them out again, and applies `AcceptedGaps` (mr74/specs/Checks.antt).
+-- proofs/Refusals.antt: each outcome is computed from the definition. `refusals-applied` takes some of them out again, and applies `AcceptedGaps`
+-- (mr74/specs/Checks.antt).
 use mathlib.Core.Path.{_≡_}
 use mathlib.Core.Bool.{true}
 use Prim.Native.Nat.{ℕ, _-_}
@@ -84,5 +85,8 @@ pub record RefusalsApplied : Type 0 where
   pub place : placeOf (frameOutcome (lowest ++ zerosThen 11 172) (stateOf (zerosThen 197 197)) 160) ≡ 7
   pub gap-place : placeOf (frameOutcome (set lowest 9 (pos 2049) ++ zerosThen 172 172) (stateOf (zerosThen 197 197)) 160) ≡ 9
   -- AcceptedGaps: of a sheet that begins with these three LSFs, and of the last two LSFs of any
-  pub first : (x y z : ℤ) (rest : List ℤ) (s : State) → isAccepted (frameOutcome (x ∷ y ∷ z ∷ rest) s 160) ≡ true → (pos 205 ≤ℤ x) × ((x +ℤ pos 205) ≤ℤ y) × ((y +ℤ pos 205) ≤ℤ z)
+  pub first :
+      (x y z : ℤ) (rest : List ℤ) (s : State)
+      → isAccepted (frameOutcome (x ∷ y ∷ z ∷ rest) s 160) ≡ true
+      → (pos 205 ≤ℤ x) × ((x +ℤ pos 205) ≤ℤ y) × ((y +ℤ pos 205) ≤ℤ z)
   pub last : (sheet : List ℤ) (s : State) → isAccepted (frameOutcome sheet s 160) ≡ true → (at sheet 8 +ℤ pos 205) ≤ℤ at sheet 9

@@ -194,12 +194,13 @@ fn spaced(listing: [u8; 1131]) -> [u8; 1131] {
     input
 }
 
-// the shift report of so many bytes of a lent input
-fn report_of(input: &[u8], count: usize) {
+// the shift report of so many bytes of a lent input, behind a name
+fn report_of(name: &[u8], input: &[u8], count: usize) {
     let mut text = [0u8; LINE_ROOM];
     if count <= input.len() {
         let end = totals::report(&mut text, &input[0..count]);
-        io::write_all(STDOUT_FILENO, b"report of ");
+        io::write_all(STDOUT_FILENO, name);
+        io::write_all(STDOUT_FILENO, b" ");
         io::print_decimal(STDOUT_FILENO, count as u64);
         io::write_all(STDOUT_FILENO, b" bytes: ");
         io::write_all(STDOUT_FILENO, &text[..end]);
@@ -208,13 +209,13 @@ fn report_of(input: &[u8], count: usize) {
 
 fn reports() {
     let input = listing();
-    report_of(&input, 0);
-    report_of(&input, 402);
-    report_of(&input, 766);
-    report_of(&input, 1131);
+    report_of(b"report of", &input, 0);
+    report_of(b"report of", &input, 402);
+    report_of(b"report of", &input, 766);
+    report_of(b"report of", &input, 1131);
     let apart = spaced(input);
-    report_of(&apart, 766);
-    report_of(&apart, 1131);
+    report_of(b"LSFs apart: report of", &apart, 766);
+    report_of(b"LSFs apart: report of", &apart, 1131);
 }
 
 fn main() {
