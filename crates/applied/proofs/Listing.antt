@@ -31,7 +31,7 @@ use Rattle.mr74.specs.Checks.{frameOutcome}
 use Rattle.mr74.specs.Frame.{frameTrace}
 use Rattle.coding.specs.Bytes.{words, bytesOf}
 use Rattle.record.specs.Record.{readCall, recordOutcome}
-use Rattle.lines.specs.Lines.{spelled, decimal, integer, peakOf, anyOf, markOf, frameLine, refusedLine, cutLine, stateLine}
+use Rattle.lines.specs.Lines.{spelled, decimal, integer, largest, peakOf, anyOf, markOf, frameLine, refusedLine, cutLine, stateLine}
 use Rattle.mr74.specs.Frame.{frameCall}
 use Rattle.sheets.specs.Sheets.{sheetsOf, sheetCall}
 use Rattle.bench_output.specs.Output.{answerLine, sheetLines, benchOutput}
@@ -53,11 +53,11 @@ report-line = refl
 
 -- one of the others is decoded
 gap-lines : benchOutput gapInput ≡ gapOutput
-unfolding flatMap iter tab clamp asr wrap add sub mult shl L-add L-sub L-mult L-shl L-shr-r L-deposit-h doublings norm-l div-s L-Extract Mpy-32-16 absolute lag-min relative cosine between lspOf raisedAt polynomial rowOf rowsOf inter6 phase start interpolated extended predicted sharpened sharpening feedback squares energy energyGain agc2 inverseTable rootScaled inverseRoot outside recursion stepNumbers someOutside someListOutside firstListOutside acc accs enhanced firstExcitation synthesisResult excitations subframeResult subframeResults coreResult firstMet stateOf coreOf postOf firstOutside firstClose frameOutcome frameTrace numerator denominator weighted residualSum residual tilts.impulse tilts.correlation tilts.tiltOf tilts.tilt preemphasised filterResult postfilterResult agc controlled words readCall recordOutcome spelled decimal integer peakOf anyOf markOf frameLine refusedLine cutLine frameCall sheetsOf sheetCall answerLine sheetLines benchOutput ascii input gapInput loud bytesOf stateOutcome oneIf runCalls retriedIn squareSum acceptedCount refusedCount retriedTotal squareTotal peakTotal wholeSheets sheetTraces meanOf meanField reportLine reportOutput
+unfolding flatMap iter tab clamp asr wrap add sub mult shl L-add L-sub L-mult L-shl L-shr-r L-deposit-h doublings norm-l div-s L-Extract Mpy-32-16 absolute lag-min relative cosine between lspOf raisedAt polynomial rowOf rowsOf inter6 phase start interpolated extended predicted sharpened sharpening feedback squares energy energyGain agc2 inverseTable rootScaled inverseRoot outside recursion stepNumbers someOutside someListOutside firstListOutside acc accs enhanced firstExcitation synthesisResult excitations subframeResult subframeResults coreResult firstMet stateOf coreOf postOf firstOutside firstClose frameOutcome frameTrace numerator denominator weighted residualSum residual tilts.impulse tilts.correlation tilts.tiltOf tilts.tilt preemphasised filterResult postfilterResult agc controlled words readCall recordOutcome spelled decimal integer largest peakOf anyOf markOf frameLine refusedLine cutLine frameCall sheetsOf sheetCall answerLine sheetLines benchOutput ascii input gapInput loud bytesOf stateOutcome oneIf runCalls retriedIn squareSum acceptedCount refusedCount retriedTotal squareTotal peakTotal wholeSheets sheetTraces meanOf meanField reportLine reportOutput
 gap-lines = refl
 
 gap-report : reportOutput gapInput ≡ ascii "1 5 0 0 0\n"
-unfolding flatMap iter tab clamp asr wrap add sub mult shl L-add L-sub L-mult L-shl L-shr-r L-deposit-h doublings norm-l div-s L-Extract Mpy-32-16 absolute lag-min relative cosine between lspOf raisedAt polynomial rowOf rowsOf inter6 phase start interpolated extended predicted sharpened sharpening feedback squares energy energyGain agc2 inverseTable rootScaled inverseRoot outside recursion stepNumbers someOutside someListOutside firstListOutside acc accs enhanced firstExcitation synthesisResult excitations subframeResult subframeResults coreResult firstMet stateOf coreOf postOf firstOutside firstClose frameOutcome frameTrace numerator denominator weighted residualSum residual tilts.impulse tilts.correlation tilts.tiltOf tilts.tilt preemphasised filterResult postfilterResult agc controlled words readCall recordOutcome spelled decimal integer peakOf anyOf markOf frameLine refusedLine cutLine frameCall sheetsOf sheetCall answerLine sheetLines benchOutput ascii input gapInput loud bytesOf stateOutcome oneIf runCalls retriedIn squareSum acceptedCount refusedCount retriedTotal squareTotal peakTotal wholeSheets sheetTraces meanOf meanField reportLine reportOutput
+unfolding flatMap iter tab clamp asr wrap add sub mult shl L-add L-sub L-mult L-shl L-shr-r L-deposit-h doublings norm-l div-s L-Extract Mpy-32-16 absolute lag-min relative cosine between lspOf raisedAt polynomial rowOf rowsOf inter6 phase start interpolated extended predicted sharpened sharpening feedback squares energy energyGain agc2 inverseTable rootScaled inverseRoot outside recursion stepNumbers someOutside someListOutside firstListOutside acc accs enhanced firstExcitation synthesisResult excitations subframeResult subframeResults coreResult firstMet stateOf coreOf postOf firstOutside firstClose frameOutcome frameTrace numerator denominator weighted residualSum residual tilts.impulse tilts.correlation tilts.tiltOf tilts.tilt preemphasised filterResult postfilterResult agc controlled words readCall recordOutcome spelled decimal integer largest peakOf anyOf markOf frameLine refusedLine cutLine frameCall sheetsOf sheetCall answerLine sheetLines benchOutput ascii input gapInput loud bytesOf stateOutcome oneIf runCalls retriedIn squareSum acceptedCount refusedCount retriedTotal squareTotal peakTotal wholeSheets sheetTraces meanOf meanField reportLine reportOutput
 gap-report = refl
 
 pub listing : Listing

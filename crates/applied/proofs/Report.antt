@@ -18,7 +18,7 @@ use Rattle.mr74.specs.Checks.{frameOutcome}
 use Rattle.mr74.specs.Frame.{frameTrace}
 use Rattle.calls.specs.Calls as calls
 use Rattle.calls.specs.Calls.{runCalls}
-use Rattle.lines.specs.Lines.{spelled, decimal, integer, peakOf, stateLine}
+use Rattle.lines.specs.Lines.{spelled, decimal, integer, largest, peakOf, stateLine}
 use Rattle.sheets.specs.Sheets.{sheetsOf}
 use Rattle.shift_report.specs.Totals.{retriedIn, squareSum, acceptedCount, refusedCount, retriedTotal, squareTotal, peakTotal, totalsOf}
 use Rattle.shift_report.specs.Report.{callOf, wholeSheets, sheetTraces, meanOf, meanField, reportLine, reportOutput}
@@ -33,10 +33,10 @@ use Rattle.applied.proofs.Examples.{example}
 use Rattle.applied.proofs.Listing.{listing}
 
 totals-are : totalsOf three ≡ expected
-unfolding oneIf retriedIn squareSum acceptedCount refusedCount retriedTotal squareTotal peakTotal peakOf
+unfolding oneIf retriedIn squareSum acceptedCount refusedCount retriedTotal squareTotal peakTotal largest peakOf
 totals-are = refl
 
-line-is : reportLine expected ≡ ascii "2 1 2 14558 -37\n"
+line-is : reportLine expected ≡ ascii "2 1 2 14558 48\n"
 unfolding reportLine meanField meanOf decimal spelled integer ascii
 line-is = refl
 
@@ -46,7 +46,7 @@ mean-is = refl
 
 -- with the refused sheet's own trace
 step-is : totalsOf (two ++ (calls.traceOf silent (callOf badSheet) ∷ [])) ≡ expected
-unfolding oneIf retriedIn squareSum acceptedCount refusedCount retriedTotal squareTotal peakTotal peakOf frameTrace frameOutcome firstMet firstOutside firstClose words silent stateOf coreOf postOf
+unfolding oneIf retriedIn squareSum acceptedCount refusedCount retriedTotal squareTotal peakTotal largest peakOf frameTrace frameOutcome firstMet firstOutside firstClose words silent stateOf coreOf postOf
 step-is = refl
 
 alone-is : reportOutput zeroRecord ≡ ascii "0 0 0 0 none\n"

@@ -11,4 +11,5 @@ pub mod Synthesis
 pub mod Postfilter
 pub mod Capi
 pub mod Listing
+pub mod Peaks
 pub mod Report

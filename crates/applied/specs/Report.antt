@@ -39,14 +39,14 @@ two = traceWith Accepted (8 ∷ 40 ∷ 40 ∷ 19 ∷ []) (minus 80 ∷ minus 90 
 abbrev pub three : List Trace
 three = two ++ (traceWith SheetLength (40 ∷ 40 ∷ 40 ∷ 40 ∷ []) (pos 5 ∷ pos 500 ∷ []) ∷ [])
 
--- 80² + 90² + 3² + 7²; the peaks are -80 and 7
+-- 80² + 90² + 3² + 7²; the peaks are 90 and 7
 abbrev pub expected : Totals
-expected = record { accepted = 2; refused = 1; retried = 2; squares = 14558; peaks = minus 73 }
+expected = record { accepted = 2; refused = 1; retried = 2; squares = 14558; peaks = pos 97 }
 
 pub record ReportApplied : Type 0 where
   -- computed
   pub totals : totalsOf three ≡ expected
-  pub line : reportLine expected ≡ ascii "2 1 2 14558 -37\n"
+  pub line : reportLine expected ≡ ascii "2 1 2 14558 48\n"
   -- StepTotals: the sums of two calls, and a refused sheet
   pub step : stepOf (totalsOf two) silent badSheet .totals ≡ expected
   -- StepsReport: what the program prints of document 01's listing, of sheets that keep the gap and break it, of a record alone, and of no byte at all
@@ -56,7 +56,7 @@ pub record ReportApplied : Type 0 where
   pub short : programReport [] ≡ ascii "state refused 11\n"
   -- Unread: whatever comes behind a record and 65,535 × 364 bytes
   pub unread : (sheets more : List ℕ) → length sheets ≡ 23854740 → reportOutput (zeroRecord ++ sheets ++ more) ≡ reportOutput (zeroRecord ++ sheets)
-  -- MeanFloor: twice the mean of -80 and 7 is at most their sum, and twice one more is above it
+  -- MeanFloor, at a sum below zero: twice the mean of two numbers is at most their sum, and twice one more is above it
   pub mean : meanOf (minus 73) 2 ≡ minus 37
   pub floor : (minus 74 ≤ℤ minus 73) × (minus 73 <ℤ minus 72)
   -- TotalsBounded: of the two calls of Examples.antt one was accepted

@@ -20,7 +20,8 @@ spelled (suc k) n = cond (ltb n 10) (digit n ∷ []) (spelled k (n / 10) ++ (dig
 unfoldable pub decimal : ℕ → List ℕ
 decimal n = spelled n n
 
--- an integer: the minus sign 2D where it is negative, and the digits of its magnitude
+-- an integer: the minus sign 2D where it is negative, and the digits of its magnitude. No peak is negative (`peak-unsigned`): the sign is not reached in a
+-- printed peak, nor in a mean of peaks
 unfoldable pub integer : ℤ → List ℕ
 integer z = cond (ltZ z (pos 0)) (0x2D ∷ decimal (natAbs z)) (decimal (natAbs z))
 
@@ -28,10 +29,18 @@ integer z = cond (ltZ z (pos 0)) (0x2D ∷ decimal (natAbs z)) (decimal (natAbs 
 abbrev pub larger : ℤ → ℤ → ℤ
 larger a b = cond (ltZ a b) b a
 
--- document 01's peak: the largest of the samples, of which there is at least one
+-- the largest of numbers, of which there is at least one
+unfoldable pub largest : List ℤ → ℤ
+largest [] = pos 0
+largest (x ∷ xs) = foldl larger x xs
+
+-- the distance of a number from zero: -32768 is 32768 from it
+abbrev pub distance : ℤ → ℤ
+distance x = pos (natAbs x)
+
+-- document 02's peak: the largest distance from zero among the samples
 unfoldable pub peakOf : List ℤ → ℤ
-peakOf [] = pos 0
-peakOf (x ∷ xs) = foldl larger x xs
+peakOf xs = largest (map distance xs)
 
 unfoldable pub anyOf : List Bool → Bool
 anyOf [] = false

@@ -47,7 +47,8 @@ pub fn put_decimal(out: &mut [u8], at: usize, n: u64) -> usize
     put_digits(out, at, n)
 }
 
-fn magnitude(x: i32) -> u64
+// The distance from zero.
+pub fn magnitude(x: i32) -> u64
     ensures { λ r. ⌜ r ≡ natAbs x ⌝ }
 {
     if x < 0 {
@@ -57,7 +58,7 @@ fn magnitude(x: i32) -> u64
     }
 }
 
-// A minus sign where the number is negative, and the digits.
+// A minus sign where the number is negative, which no peak is, and the digits.
 pub fn put_integer(out: &mut [u8], at: usize, x: i32) -> usize
     requires { ⌜ at + 21 ≤ length (now out) ⌝ }
     ensures put { λ r. ⌜ Put (now (out .entry)) at (integer x) r (now (out .exit)) ⌝ }

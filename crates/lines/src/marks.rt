@@ -1,6 +1,7 @@
 // Peak and mark of a frame.
 ghost use mathlib.Core.Path.{_≡_};
 ghost use Rattle.lines.specs.Lines.{larger, peakOf, anyOf, markOf};
+use crate::fields::magnitude;
 
 fn larger(a: i32, b: i32) -> i32
     ensures { λ r. ⌜ r ≡ larger a b ⌝ }
@@ -8,13 +9,13 @@ fn larger(a: i32, b: i32) -> i32
     if a < b { b } else { a }
 }
 
-// The largest of the samples.
+// The largest distance from zero among the samples: of -32768 it is 32768.
 pub fn peak(samples: [i16; 160]) -> i32
     ensures { λ r. ⌜ r ≡ peakOf samples ⌝ }
 {
-    let mut most = samples[0] as i32;
+    let mut most = 0;
     for i in 0..160 {
-        most = larger(most, samples[i] as i32);
+        most = larger(most, magnitude(samples[i] as i32) as i32);
     }
     most
 }

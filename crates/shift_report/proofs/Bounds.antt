@@ -8,10 +8,10 @@ use lib.IntN.{ℤ, natAbs}
 use lib.ListN.{length}
 use Rattle.lists.specs.Lists.{oneIf, count}
 use Rattle.basicop.specs.Words.{Words}
-use Rattle.basicop.proofs.Range.{natAbs-in, natAbs-add}
+use Rattle.basicop.proofs.Range.{natAbs-add}
 use Rattle.decoder.specs.Subframe.{flagOf}
 use Rattle.lines.specs.Lines.{peakOf}
-use Rattle.lines.proofs.Peaks.{peak-fits}
+use Rattle.lines.proofs.Peaks.{peak-most}
 use Rattle.shift_report.specs.declared.Totals.{Totals}
 use Rattle.shift_report.specs.Totals.{retriedIn, squareSum, acceptedCount, refusedCount, retriedTotal, squareTotal, peakTotal, totalsOf}
 use Rattle.shift_report.specs.Steps.{plus, Bounded}
@@ -34,7 +34,7 @@ module _ (xs : List ℤ) (w : Words 160 xs) where
   squares-of-frame = omega (arith, squares-most xs (w .fit), w .count)
 
   pub peak-of-frame : natAbs (peakOf xs) ≤ 32768
-  peak-of-frame = natAbs-in (peakOf xs) (peak-fits xs (w .fit) .sfits)
+  peak-of-frame = peak-most xs (w .fit)
 
 pub share-bounded : (b : Bool) (places : List ℕ) (xs : List ℤ) → (b ≡ true → (length places ≡ 4) × Words 160 xs) → Bounded (shareBy b places xs)
 share-bounded true places xs f =

@@ -114,19 +114,31 @@ fn first_clamp(second: i16) {
     }
 }
 
-// of a frame whose other samples are -32768
+// of a frame whose other samples are 0
 fn peak_of(sample: i16) {
-    let mut samples = [-32768i16; 160];
+    let mut samples = [0i16; 160];
     samples[159] = sample;
     line(b"peak", sample as i32, lines::peak(samples));
 }
 
+// -32768 has no opposite among the samples: 32767 is the largest
 fn peaks() {
-    peak_of(32759);
-    peak_of(32760);
-    peak_of(32767);
-    peak_of(-1);
     peak_of(-32768);
+    peak_of(32767);
+    peak_of(-32760);
+    peak_of(32760);
+    peak_of(-32759);
+    peak_of(32759);
+    peak_of(-1);
+    peak_of(1);
+}
+
+// of a frame with one sample below zero, a smaller one above it, and 0
+fn peak_below_zero() {
+    let mut samples = [0i16; 160];
+    samples[0] = -32760;
+    samples[159] = 32759;
+    line(b"peak -32760,", 32759, lines::peak(samples));
 }
 
 // the mark of a peak, without a retry and with one in each subframe
@@ -147,11 +159,11 @@ fn mark(peak: i32) {
 }
 
 fn marks() {
+    mark(0);
     mark(32759);
     mark(32760);
     mark(32767);
-    mark(-1);
-    mark(-32768);
+    mark(32768);
 }
 
 // of so many peaks by their sum
@@ -166,8 +178,8 @@ fn means() {
     mean_of_two(-1);
     line(
         b"mean of 65535 by their sum",
-        -2147450880,
-        totals::mean(-2147450880, 65535),
+        2147450880,
+        totals::mean(2147450880, 65535),
     );
 }
 
@@ -227,6 +239,7 @@ fn main() {
     first_clamp(0);
     first_clamp(1);
     peaks();
+    peak_below_zero();
     marks();
     means();
     reports();

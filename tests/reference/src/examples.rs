@@ -3,13 +3,12 @@
 use crate::{
     FRAME, SHEET, STATE, SUBFRAMES, at,
     draw::{self, Loudness},
-    flag,
     frame::frame,
     part,
     program::{LOUD_SEED, bytes_of, record_of, sheet, single},
     random::Random,
+    sheets,
 };
-use std::ops::RangeInclusive;
 
 /// A stored run: `NAME.bin` has its input, `NAME.txt` the bench program's lines, `NAME.report.txt`
 /// the shift report's.
@@ -59,42 +58,58 @@ fn call() -> Vec<u8> {
 /// How a sheet is drawn.
 type Draw = fn(&mut Random) -> Vec<i16>;
 
+/// What is asked of the samples.
+type Test = fn(&sheets::Frame) -> bool;
+
+fn plain(frame: &sheets::Frame) -> bool {
+    frame.peak() < 32760
+}
+
+fn all_negative(frame: &sheets::Frame) -> bool {
+    plain(frame) && frame.largest() < 0
+}
+
+fn loud_above(frame: &sheets::Frame) -> bool {
+    frame.largest() >= 32760
+}
+
+fn loud_below(frame: &sheets::Frame) -> bool {
+    frame.largest() < 32760 && frame.peak() >= 32760
+}
+
 /// What the next sheet is to show.
 enum Wanted {
-    /// Flags and peak: the first drawn sheet that has them.
-    Frame(Draw, [i16; SUBFRAMES], RangeInclusive<i16>),
+    /// Flags and samples: the first drawn sheet that has them.
+    Frame(Draw, [i16; SUBFRAMES], Test),
     /// A refusal: a drawn sheet with these numbers at these places.
     Refusal(&'static [(usize, i16)]),
 }
 
 use Wanted::{Frame, Refusal};
 
-const NEGATIVE: RangeInclusive<i16> = -32768..=-1;
-const PLAIN: RangeInclusive<i16> = 0..=32759;
-const LOUD: RangeInclusive<i16> = 32760..=32767;
-
-/// The sheets of `marks.bin` after the first: each flag alone, each mark, a negative peak,
-/// refusals 2, 3, 4 and 6, three sheets with several, and a last sheet to cut.
+/// The sheets of `marks.bin` after the first: each flag alone, each mark, samples all negative,
+/// loud above zero and below, refusals 2, 3, 4 and 6, three sheets with several, and a last sheet
+/// to cut.
 const MARKS: [Wanted; 18] = [
-    Frame(sheet, [1, 0, 0, 0], PLAIN),
-    Frame(sheet, [0, 1, 0, 0], PLAIN),
+    Frame(sheet, [1, 0, 0, 0], plain),
+    Frame(sheet, [0, 1, 0, 0], plain),
     Refusal(&[(7, 16385)]),
-    Frame(sheet, [0, 0, 1, 0], PLAIN),
-    Frame(sheet, [0, 0, 0, 1], PLAIN),
-    Frame(lowered, [0, 0, 0, 0], PLAIN),
+    Frame(sheet, [0, 0, 1, 0], plain),
+    Frame(sheet, [0, 0, 0, 1], plain),
+    Frame(lowered, [0, 0, 0, 0], plain),
     Refusal(&[(at::PITCH + 2, 256)]),
-    Frame(lowered, [0, 0, 0, 0], NEGATIVE),
-    Frame(sheet, [1, 0, 1, 0], PLAIN),
+    Frame(lowered, [0, 0, 0, 0], all_negative),
+    Frame(sheet, [1, 0, 1, 0], plain),
     Refusal(&[(at::GAINS + 6, -1)]),
-    Frame(sheet, [0, 1, 1, 1], LOUD),
+    Frame(sheet, [0, 1, 1, 1], loud_below),
     Refusal(&[(5, -1), (at::PITCH, 256), (at::GAINS, -1)]),
-    Frame(sheet, [1, 1, 1, 1], LOUD),
-    Frame(sheet, [1, 1, 0, 1], PLAIN),
+    Frame(sheet, [1, 1, 1, 1], loud_above),
+    Frame(sheet, [1, 1, 0, 1], plain),
     Refusal(&[(at::PITCH + 1, 32), (at::PITCH + 3, 32), (at::GAINS, -1)]),
-    Frame(sheet, [0, 0, 0, 0], PLAIN),
+    Frame(sheet, [0, 0, 0, 0], plain),
     // An LSF of 0 behind others breaks the gap.
     Refusal(&[(8, 0), (at::PITCH + 1, 32), (at::GAINS, -1)]),
-    Frame(sheet, [0, 0, 0, 0], PLAIN),
+    Frame(sheet, [0, 0, 0, 0], plain),
 ];
 
 /// A sheet with one negative number at every place of its innovation.
@@ -104,24 +119,21 @@ pub fn lowered(random: &mut Random) -> Vec<i16> {
     sheet
 }
 
-fn shows(
-    sheet: &[i16],
-    state: &[i16; STATE],
-    flags: [i16; SUBFRAMES],
-    peaks: &RangeInclusive<i16>,
-) -> bool {
+fn decoded(sheet: &[i16], state: &[i16; STATE]) -> sheets::Frame {
     let mut samples = [0; FRAME];
-    let answer = frame(sheet, state, &mut samples);
-    let peak = samples.iter().max();
-    answer.places.map(flag) == flags && peak.is_some_and(|peak| peaks.contains(peak))
+    let places = frame(sheet, state, &mut samples).places;
+    sheets::Frame { places, samples }
 }
 
 fn drawn(random: &mut Random, state: &[i16; STATE], wanted: &Wanted) -> Vec<i16> {
     match wanted {
-        Frame(draw, flags, peaks) => (0..100_000)
+        Frame(draw, flags, test) => (0..100_000)
             .map(|_| draw(random))
-            .find(|sheet| shows(sheet, state, *flags, peaks))
-            .expect("a sheet with these flags and peak is drawn"),
+            .find(|sheet| {
+                let frame = decoded(sheet, state);
+                frame.flags() == *flags && test(&frame)
+            })
+            .expect("a sheet with these flags and samples is drawn"),
         Refusal(numbers) => {
             let mut sheet = sheet(random);
             for &(place, number) in *numbers {
@@ -132,7 +144,8 @@ fn drawn(random: &mut Random, state: &[i16; STATE], wanted: &Wanted) -> Vec<i16>
     }
 }
 
-/// A state and a sheet that is loud without a retry, then `MARKS`; the last sheet lacks a byte.
+/// A state and a sheet that is loud below zero without a retry, then `MARKS`; the last sheet lacks
+/// a byte.
 fn marks() -> Vec<u8> {
     let mut random = Random::new(77);
     let (state, sheet) = single(LOUD_SEED);

@@ -972,7 +972,7 @@ fn frame_kinds() -> Vec<Kind> {
         "ordinary",
         "-32768 and 32767",
         "silence",
-        "peak below 0",
+        "samples all negative",
         "peak 32760 or more",
         "sample -32768",
         "coefficient wraps at 16 bits",

@@ -755,9 +755,10 @@ pub fn frame(trace: &mut Trace, sheet: &[i16], state: &[i16]) -> Vec<i16> {
     let pattern = |pattern, &place: &i16| 2 * pattern + flag(place);
     trace.number("flags", places.iter().fold(0, pattern));
     let (mut answer, memory) = postfilter(trace, &state[at::MEMORY..STATE], &synthesized, &rows);
-    let peak = *answer.iter().max().expect("a frame has 160 samples");
-    trace.mark_if(peak < 0, "peak below 0");
-    trace.mark_if(peak >= 32760, "peak 32760 or more");
+    let peak = answer.iter().map(|sample| sample.unsigned_abs()).max();
+    trace.mark_if(peak >= Some(32760), "peak 32760 or more");
+    let negative = answer.iter().all(|&sample| sample < 0);
+    trace.mark_if(negative, "samples all negative");
     trace.mark_if(answer.contains(&-32768), "sample -32768");
     trace.mark_if(answer.iter().all(|&sample| sample == 0), "silence");
     answer.extend(places);

@@ -112,11 +112,11 @@ fn bad_records(good: &[u8]) -> Vec<Vec<u8>> {
     bad
 }
 
-/// Peak of the first frame of an input, and whether a subframe was retried.
-fn shown(input: &[u8]) -> (i16, bool) {
+/// Peak and largest sample of the first frame of an input, and whether a subframe was retried.
+fn shown(input: &[u8]) -> (u16, i16, bool) {
     let frames = sheets::frames(input);
     let frame = frames.first().expect("a drawn sheet is accepted");
-    (frame.peak(), frame.flags().contains(&1))
+    (frame.peak(), frame.largest(), frame.flags().contains(&1))
 }
 
 /// A state and an accepted sheet, drawn from a seed.
@@ -128,7 +128,7 @@ pub fn single(seed: u64) -> (Vec<i16>, Vec<i16>) {
 }
 
 /// A state and a sheet whose samples are all negative: a constant innovation and flat rows.
-fn negative_peak(random: &mut Random) -> Option<Vec<u8>> {
+fn all_negative(random: &mut Random) -> Option<Vec<u8>> {
     for _ in 0..20_000 {
         let mut sheet = sheet(random);
         let level = random.word(-8192, -1);
@@ -136,8 +136,8 @@ fn negative_peak(random: &mut Random) -> Option<Vec<u8>> {
         let mut state = draw::state(random, 300);
         state[at::PAST..at::SHARPENING].fill(level);
         let input = [record_of(&state), bytes_of(&sheet)].concat();
-        let (peak, retried) = shown(&input);
-        if peak < 0 && !retried {
+        let (_, largest, retried) = shown(&input);
+        if largest < 0 && !retried {
             return Some(input);
         }
     }
@@ -234,25 +234,30 @@ fn sheets(tally: &mut Tally, programs: &Programs, random: &mut Random) {
     compare(tally, programs, "a last sheet cut at every length", &cut);
 }
 
-/// The seed of a peak of 32761 without a retry.
-pub const LOUD_SEED: u64 = 21_810;
+/// The seed of a peak of 32760, below zero alone, without a retry.
+pub const LOUD_SEED: u64 = 1_432_170;
 
 fn marks(tally: &mut Tally, programs: &Programs, random: &mut Random) {
-    // Seeds from a search of 2,000,000. It met no peak of 32759 without a retry.
-    for (seed, peak, retried) in [
-        (71, 32759, true),
-        (199_445, 32760, true),
-        (1_557_065, 32760, false),
-        (LOUD_SEED, 32761, false),
+    // Peak, largest sample and retry. Seeds from a search of 4,000,000. It met no peak of 32759 or
+    // 32760 above zero without a retry.
+    for (seed, peak, largest, retried) in [
+        (71, 32759, 32759, true),
+        (1_480_341, 32759, 25845, false),
+        (199_445, 32760, 32760, true),
+        (454, 32760, 32751, true),
+        (LOUD_SEED, 32760, 28195, false),
+        (3_634_600, 32760, 32759, true),
+        (1_644_067, 32761, 32761, false),
+        (32, 32768, 27649, false),
     ] {
         let (state, sheet) = single(seed);
         let input = [record_of(&state), bytes_of(&sheet)].concat();
-        let name = format!("peak {peak}, retried: {retried}");
-        tally.line(shown(&input) == (peak, retried), &name);
+        let name = format!("peak {peak}, largest sample {largest}, retried: {retried}");
+        tally.line(shown(&input) == (peak, largest, retried), &name);
         compare(tally, programs, &name, &[input]);
     }
-    let negative = negative_peak(random);
-    compare(tally, programs, "a negative peak", negative.as_slice());
+    let negative = all_negative(random);
+    compare(tally, programs, "samples all negative", negative.as_slice());
 }
 
 /// The stored runs: the input is made again, the texts have its lines, and the programs write them.

@@ -28,13 +28,13 @@ fn totals(sheets: Vec<Sheet>) -> String {
     let retried = places.filter(|&place| place != NOWHERE).count();
     let samples = frames.iter().flat_map(|frame| frame.samples);
     let squares: i64 = samples.map(|sample| i64::from(sample).pow(2)).sum();
-    let peaks: Vec<i16> = frames.iter().map(Frame::peak).collect();
+    let peaks: Vec<u16> = frames.iter().map(Frame::peak).collect();
     let mean = mean(&peaks).map_or("none".to_string(), |mean| mean.to_string());
     format!("{accepted} {refused} {retried} {squares} {mean}\n")
 }
 
-/// Rounded toward minus infinity; none of no peaks.
-pub fn mean(peaks: &[i16]) -> Option<i64> {
-    let sum: i64 = peaks.iter().map(|&peak| i64::from(peak)).sum();
-    sum.checked_div_euclid(peaks.len() as i64)
+/// Rounded down; none of no peaks.
+pub fn mean(peaks: &[u16]) -> Option<u64> {
+    let sum: u64 = peaks.iter().map(|&peak| u64::from(peak)).sum();
+    sum.checked_div(peaks.len() as u64)
 }

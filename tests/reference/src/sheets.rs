@@ -17,7 +17,13 @@ impl Frame {
         self.places.map(flag)
     }
 
-    pub fn peak(&self) -> i16 {
+    /// The largest distance from zero among the samples.
+    pub fn peak(&self) -> u16 {
+        let distances = self.samples.iter().map(|sample| sample.unsigned_abs());
+        distances.max().expect("a frame has 160 samples")
+    }
+
+    pub fn largest(&self) -> i16 {
         *self.samples.iter().max().expect("a frame has 160 samples")
     }
 }

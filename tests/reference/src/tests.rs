@@ -1,12 +1,14 @@
 use crate::{
-    FRAME, LSF_GAP, LSFS, ROW, SHEET, STATE, SUBFRAME, SUBFRAMES, at, draw,
+    FRAME, LSF_GAP, LSFS, NOWHERE, ROW, SHEET, STATE, SUBFRAME, SUBFRAMES, at, draw,
     files::{self, FILES},
     frame::frame,
     indexed::source::{self, Source},
     mr74::stages,
     part,
     random::Random,
-    record, report, values,
+    record, report,
+    sheets::Frame,
+    values,
 };
 use std::{collections::BTreeSet, fs, path::PathBuf};
 
@@ -183,15 +185,31 @@ fn sheets_stand_for_indices() {
 }
 
 #[test]
+fn peaks_are_distances() {
+    for (sample, peak) in [
+        (-32768, 32768),
+        (-32760, 32760),
+        (-1, 1),
+        (0, 0),
+        (32759, 32759),
+        (32767, 32767),
+    ] {
+        let mut samples = [0; FRAME];
+        samples[FRAME - 1] = sample;
+        let places = [NOWHERE; SUBFRAMES];
+        assert_eq!(Frame { places, samples }.peak(), peak, "{sample}");
+    }
+}
+
+#[test]
 fn means_are_rounded_down() {
     for (peaks, mean) in [
-        (&[-80, 7][..], Some(-37)),
-        (&[80, -7], Some(36)),
-        (&[-1], Some(-1)),
-        (&[-1, 0, 0], Some(-1)),
-        (&[-2, -4], Some(-3)),
-        (&[32767, 32766], Some(32766)),
-        (&[-32768; 3], Some(-32768)),
+        (&[90, 7][..], Some(48)),
+        (&[1], Some(1)),
+        (&[1, 1, 0], Some(0)),
+        (&[2, 4], Some(3)),
+        (&[32768, 32767], Some(32767)),
+        (&[32768; 3], Some(32768)),
         (&[], None),
     ] {
         assert_eq!(report::mean(peaks), mean, "{peaks:?}");

@@ -1,6 +1,6 @@
 //! What the shift report alone shows: totals of several frames, its limit, and how much it reads.
 
-use super::{Programs, bytes_of, compare, negative_peak, process::Program, record_of, sheet};
+use super::{Programs, all_negative, bytes_of, compare, process::Program, record_of, sheet};
 use crate::{
     LSFS, SHEET, STATE, at,
     examples::lowered,
@@ -40,33 +40,33 @@ fn refused() -> Vec<u8> {
 }
 
 /// Sum and number of the peaks of an input.
-fn peaks(input: &[u8]) -> (i64, i64) {
+fn peaks(input: &[u8]) -> (u64, u64) {
     let frames = sheets::frames(input);
-    let peaks = frames.iter().map(|frame| i64::from(frame.peak()));
-    (peaks.sum(), frames.len() as i64)
+    let peaks = frames.iter().map(|frame| u64::from(frame.peak()));
+    (peaks.sum(), frames.len() as u64)
 }
 
-/// Three frames with a mean peak below zero, two thirds above a whole number: rounded toward zero
-/// or to the nearest it would be another.
-fn negative_mean(random: &mut Random) -> Option<Vec<u8>> {
+/// Three frames, the first with all samples negative, with a mean peak two thirds above a whole
+/// number: rounded to the nearest it would be another.
+fn uneven(random: &mut Random) -> Option<Vec<u8>> {
     let mut drawn = || {
-        let mut input = negative_peak(random)?;
+        let mut input = all_negative(random)?;
         input.extend((0..2).flat_map(|_| bytes_of(&lowered(random))));
         Some(input)
     };
     let is_wanted = |input: &Vec<u8>| {
         let (sum, count) = peaks(input);
-        sum < 0 && sum.rem_euclid(count) == 2
+        sum % count == 2
     };
     (0..1000).filter_map(|_| drawn()).find(is_wanted)
 }
 
 fn means(tally: &mut Tally, programs: &Programs, random: &mut Random) {
-    let input = negative_mean(random).unwrap_or_default();
+    let input = uneven(random).unwrap_or_default();
     let (sum, count) = peaks(&input);
     let name = format!("{count} peaks with the sum {sum}");
-    let good = sum < 0 && sum % count != 0;
-    tally.line(good, &format!("{name}: a mean below zero, not whole"));
+    let good = count == 3 && sum % count == 2;
+    tally.line(good, &format!("{name}: their mean is not whole"));
     compare(tally, programs, &name, &[input]);
 }
 

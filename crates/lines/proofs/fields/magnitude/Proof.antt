@@ -1,14 +1,13 @@
 -- `lines::magnitude` meets its contract: the opposite of a negative 32-bit number fits 64 bits, and its magnitude is the number's.
-use mathlib.Core.Path.{_≡_, refl, ap, _∙_}
-use Prim.Native.Nat.{zero, suc}
-use lib.IntN.{ℤ, pos, negsuc, negℤ, natAbs, _-ℤ_, +ℤ-idl}
+use mathlib.Core.Path.{_≡_, ap, _∙_}
+use lib.IntN.{ℤ, pos, negℤ, natAbs, _-ℤ_, +ℤ-idl}
 use lib.Signed.{_<ℤ_, _≤ℤ_}
 use mir.Syntax.{w32, w64}
 use mir.Val.{SFits}
 use mir.Facts.{toZ-ofZ}
 use Rattle.basicop.proofs.Ints.{arithℤ, sfits-by, sub-ℤ-is}
 use Rattle.basicop.proofs.Calls.{needsℤ}
-use Rattle.basicop.proofs.Range.{cast-asks}
+use Rattle.basicop.proofs.Range.{natAbs-neg, cast-asks}
 use Rattle.basicop.proofs.Tests.{negative, from-zero}
 use Rattle.lines.proofs.fields.magnitude.Statement.{statement}
 use Rattle.lines.proofs.fields.magnitude.Tie as tie
@@ -19,13 +18,8 @@ fits x f = sfits-by (omega (arithℤ, sub-ℤ-is (pos 0) x))
 turned : (x : ℤ) → x <ℤ pos 0 → pos 0 ≤ℤ (pos 0 -ℤ x)
 turned x h = omega (arithℤ, sub-ℤ-is (pos 0) x)
 
-opposite : (x : ℤ) → natAbs (negℤ x) ≡ natAbs x
-opposite (pos zero) = refl
-opposite (pos (suc n)) = refl
-opposite (negsuc n) = refl
-
 same : (x : ℤ) → natAbs (pos 0 -ℤ x) ≡ natAbs x
-same x = ap natAbs (+ℤ-idl (negℤ x)) ∙ opposite x
+same x = ap natAbs (+ℤ-idl (negℤ x)) ∙ natAbs-neg x
 
 cast-result : tie.Need-cast-result
 cast-result c = search needsℤ

@@ -1,6 +1,6 @@
 -- `lines::larger` meets its contract: its test is the definition's.
 use mir.Facts.{toZ-ofZ}
-use Rattle.lines.proofs.Peaks.{larger-right, larger-left}
+use Rattle.lines.proofs.Largest.{larger-right, larger-left}
 use Rattle.lines.proofs.marks.larger.Statement.{statement}
 use Rattle.lines.proofs.marks.larger.Tie as tie
 
