@@ -5,7 +5,7 @@ use mathlib.Core.List.{List, [], _∷_}
 use Prim.Native.Nat.{ℕ, zero, suc, _<_}
 use native.Mathlib.Omega.{arith}
 use lib.IntN.{ℤ, pos, negℤ, natAbs}
-use lib.Signed.{_≤ℤ_, _<ℤ_}
+use lib.Signed.{_<ℤ_}
 use Rattle.lists.specs.Lists.{at, minus}
 use Rattle.lines.specs.Lines.{larger, largest, peakOf, anyOf, markOf, spelled, decimal, integer, frameLine}
 use Rattle.lines.proofs.Peaks.{peak-sides, peak-unsigned, mark-sides}

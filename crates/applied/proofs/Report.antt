@@ -26,7 +26,7 @@ use Rattle.shift_report.proofs.Means.{mean-floor}
 use Rattle.shift_report.proofs.Unread.{unread}
 use Rattle.shift_report.proofs.Steps as steps
 use Rattle.shift_report.proofs.Widths as widths
-use Rattle.applied.specs.Examples.{silent, call, calls, Seen}
+use Rattle.applied.specs.Examples.{silent, calls, Seen}
 use Rattle.applied.specs.Listing.{ascii, zeroRecord, badSheet, input, gapInput}
 use Rattle.applied.specs.Report.{two, three, expected, ReportApplied}
 use Rattle.applied.proofs.Examples.{example}

@@ -2,13 +2,13 @@
 use mathlib.Core.Path.{_≡_, refl}
 use mathlib.Core.Bool.{Bool, true, false, cond}
 use mathlib.Core.List.{List, [], _∷_, foldl}
-use Prim.Native.Nat.{ℕ, zero, suc, max, min, _<_}
+use Prim.Native.Nat.{ℕ, zero, suc, _<_}
 use native.Mathlib.Omega.{arith}
-use lib.IntN.{ℤ, pos, negsuc}
+use lib.IntN.{ℤ, pos}
 use lib.ListN.{length}
 use lib.Signed.{ltZ, _≤ℤ_, _<ℤ_}
 use Rattle.lists.specs.Lists.{at}
-use Rattle.basicop.proofs.Ints.{up, dn, eq-in, arithℤ}
+use Rattle.basicop.proofs.Ints.{eq-in, arithℤ}
 use Rattle.basicop.proofs.Tests.{less-yes, less-no}
 use Rattle.lines.specs.Lines.{larger, largest}
 
@@ -19,7 +19,7 @@ larger-right a b e = rw e
 pub larger-left : (a b : ℤ) → ltZ a b ≡ false → a ≡ larger a b
 larger-left a b e = rw e
 
--- what holds of both, where the one is the larger, holds of the larger
+-- what holds of either where it is the larger holds of the larger
 pub larger-by : (P : ℤ → Type 0) (a b : ℤ) → (a <ℤ b → P b) → (b ≤ℤ a → P a) → P (larger a b)
 larger-by P a b f g = go (ltZ a b) refl
   where
@@ -27,29 +27,25 @@ larger-by P a b f g = go (ltZ a b) refl
     go true e = f (less-yes e)
     go false e = g (less-no e)
 
-pub larger-over : (a b : ℤ) → (a ≤ℤ larger a b) × (b ≤ℤ larger a b)
+larger-over : (a b : ℤ) → (a ≤ℤ larger a b) × (b ≤ℤ larger a b)
 larger-over a b = larger-by (λ (z : ℤ). (a ≤ℤ z) × (b ≤ℤ z)) a b (λ h. (omega arithℤ, omega arithℤ)) (λ h. (omega arithℤ, omega arithℤ))
 
--- of four: by the two parts of each number, of which one is 0
-apart : (z : ℤ) → min (up z) (dn z) ≡ 0
-apart (pos n) = omega arith
-apart (negsuc n) = omega arith
+larger-under : (a b c : ℤ) → a ≤ℤ c → b ≤ℤ c → larger a b ≤ℤ c
+larger-under a b c h k = larger-by (λ (z : ℤ). z ≤ℤ c) a b (λ l. k) (λ l. h)
 
-larger-up : (a b : ℤ) → up (larger a b) ≡ max (up a) (up b)
-larger-up a b = larger-by (λ (z : ℤ). up z ≡ max (up a) (up b)) a b (λ h. omega (arithℤ, apart a, apart b)) (λ h. omega (arithℤ, apart a, apart b))
+-- of four, in either arrangement
+four-under : (a b c d : ℤ) → larger (larger a b) (larger c d) ≤ℤ larger (larger a c) (larger b d)
+four-under a b c d =
+    let m = larger (larger a c) (larger b d) in
+    let r = larger-over (larger a c) (larger b d) in
+    let s = larger-over a c in
+    let t = larger-over b d in
+    larger-under (larger a b) (larger c d) m
+    (larger-under a b m (omega (arithℤ, r .0, s .0)) (omega (arithℤ, r .1, t .0)))
+    (larger-under c d m (omega (arithℤ, r .0, s .1)) (omega (arithℤ, r .1, t .1)))
 
-larger-dn : (a b : ℤ) → dn (larger a b) ≡ min (dn a) (dn b)
-larger-dn a b = larger-by (λ (z : ℤ). dn z ≡ min (dn a) (dn b)) a b (λ h. omega (arithℤ, apart a, apart b)) (λ h. omega (arithℤ, apart a, apart b))
-
-module _ (a b c d : ℤ) where
-  four-up : up (larger (larger a b) (larger c d)) ≡ up (larger (larger a c) (larger b d))
-  four-up = omega (arith, larger-up (larger a b) (larger c d), larger-up (larger a c) (larger b d), larger-up a b, larger-up c d, larger-up a c, larger-up b d)
-
-  four-dn : dn (larger (larger a b) (larger c d)) ≡ dn (larger (larger a c) (larger b d))
-  four-dn = omega (arith, larger-dn (larger a b) (larger c d), larger-dn (larger a c) (larger b d), larger-dn a b, larger-dn c d, larger-dn a c, larger-dn b d)
-
-  pub larger-four : larger (larger a b) (larger c d) ≡ larger (larger a c) (larger b d)
-  larger-four = eq-in _ _ (omega (arith, four-up, four-dn))
+pub larger-four : (a b c d : ℤ) → larger (larger a b) (larger c d) ≡ larger (larger a c) (larger b d)
+larger-four a b c d = eq-in _ _ (omega (arithℤ, four-under a b c d, four-under a c b d))
 
 -- ---- the largest of a list
 fold-keeps : (P : ℤ → Type 0) (x : ℤ) (xs : List ℤ) → P x → ((i : ℕ) → i < length xs → P (at xs i)) → P (foldl larger x xs)
@@ -62,20 +58,15 @@ unfolding largest
 largest-keeps P z [] f = z
 largest-keeps P z (x ∷ xs) f = fold-keeps P x xs (f 0 (omega arith)) (λ i h. f (suc i) (omega (arith, h)))
 
-fold-over : (x : ℤ) (xs : List ℤ) → (x ≤ℤ foldl larger x xs) × ((i : ℕ) → i < length xs → at xs i ≤ℤ foldl larger x xs)
-fold-over x [] = (omega arithℤ, λ i h. absurd (omega (arith, h)))
-fold-over x (y ∷ ys) =
-    let r = fold-over (larger x y) ys in
-    let o = larger-over x y in
-    (omega (arithℤ, o .0, r .0), entries r (o .1))
-  where
-    entries : {m z : ℤ} → (m ≤ℤ z) × ((i : ℕ) → i < length ys → at ys i ≤ℤ z) → y ≤ℤ m → (i : ℕ) → i < suc (length ys) → at (y ∷ ys) i ≤ℤ z
-    entries r h zero l = omega (arithℤ, r .0, h)
-    entries r h (suc i) l = r .1 i (omega (arith, l))
+fold-over : (x : ℤ) (xs : List ℤ) (i : ℕ) → i < suc (length xs) → at (x ∷ xs) i ≤ℤ foldl larger x xs
+fold-over x [] zero h = omega arithℤ
+fold-over x [] (suc i) h = absurd (omega (arith, h))
+fold-over x (y ∷ ys) zero h = omega (arithℤ, larger-over x y .0, fold-over (larger x y) ys 0 (omega arith))
+fold-over x (y ∷ ys) (suc zero) h = omega (arithℤ, larger-over x y .1, fold-over (larger x y) ys 0 (omega arith))
+fold-over x (y ∷ ys) (suc (suc i)) h = fold-over (larger x y) ys (suc i) (omega (arith, h))
 
 -- no entry is above it
 pub largest-over : (xs : List ℤ) (i : ℕ) → i < length xs → at xs i ≤ℤ largest xs
 unfolding largest
 largest-over [] i h = absurd (omega (arith, h))
-largest-over (x ∷ xs) zero h = fold-over x xs .0
-largest-over (x ∷ xs) (suc i) h = fold-over x xs .1 i (omega (arith, h))
+largest-over (x ∷ xs) i h = fold-over x xs i h

@@ -29,11 +29,11 @@ peak-from-zero [] = refl
 peak-from-zero (x ∷ xs) = ap (λ (z : ℤ). foldl larger z (map distance xs)) (first-distance x)
 
 -- what holds of 0 and of every entry's distance holds of the peak
-pub peak-keeps : (P : ℤ → Type 0) → P (pos 0) → (xs : List ℤ) → ((i : ℕ) → P (distance (at xs i))) → P (peakOf xs)
+peak-keeps : (P : ℤ → Type 0) → P (pos 0) → (xs : List ℤ) → ((i : ℕ) → P (distance (at xs i))) → P (peakOf xs)
 unfolding peakOf
 peak-keeps P z xs f = largest-keeps P z (map distance xs) (λ i h. subst P (at-map distance xs i (omega (arith, length-map xs distance, h))) (f i))
 
-pub peak-over : (xs : List ℤ) (i : ℕ) → i < length xs → distance (at xs i) ≤ℤ peakOf xs
+peak-over : (xs : List ℤ) (i : ℕ) → i < length xs → distance (at xs i) ≤ℤ peakOf xs
 unfolding peakOf
 peak-over xs i h = subst (λ (z : ℤ). z ≤ℤ largest (map distance xs)) (sym (at-map distance xs i h)) (largest-over (map distance xs) i (omega (arith, length-map xs distance, h)))
 
@@ -45,7 +45,7 @@ pub peak-unsigned : PeakUnsigned
 unfolding integer
 peak-unsigned xs = rw (no-less (peakOf xs) (pos 0) (peak-keeps (λ (z : ℤ). pos 0 ≤ℤ z) (omega arithℤ) xs (λ i. omega arithℤ)))
 
--- ---- from either side of zero
+-- ---- the peak from either side of zero
 distance-sides : (x : ℤ) → distance x ≡ larger x (negℤ x)
 distance-sides (pos zero) = refl
 distance-sides (pos (suc n)) = refl
@@ -73,7 +73,7 @@ pub mark-plain : (peak : ℤ) (flags : List Bool) → ltZ peak (pos 32760) ≡ t
 unfolding markOf
 mark-plain peak flags e f = rw (e, f)
 
--- ---- from either side of zero
+-- ---- the mark from either side of zero
 -- marks differ by the test of the peak alone
 mark-by : (a b : ℤ) (flags : List Bool) → ltZ a (pos 32760) ≡ ltZ b (pos 32760) → markOf a flags ≡ markOf b flags
 unfolding markOf

@@ -1,4 +1,4 @@
--- The bench program's lines, as bytes of ASCII: document 01, "The bench program's lines".
+-- The bench program's lines, as bytes of ASCII: document 01, "The bench program's lines", with the peak of document 02, 4/13.
 use mathlib.Core.Bool.{Bool, false, cond, _||_}
 use mathlib.Core.List.{List, [], _∷_, _++_, map, foldl}
 use Prim.Native.Nat.{ℕ, zero, suc, _+_, _/_, _%_}

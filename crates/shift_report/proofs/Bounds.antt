@@ -6,7 +6,7 @@ use mathlib.Core.List.{List, [], _∷_}
 use native.Mathlib.Omega.{arith}
 use lib.IntN.{ℤ, natAbs}
 use lib.ListN.{length}
-use Rattle.lists.specs.Lists.{oneIf, count}
+use Rattle.lists.specs.Lists.{oneIf}
 use Rattle.basicop.specs.Words.{Words}
 use Rattle.basicop.proofs.Range.{natAbs-add}
 use Rattle.decoder.specs.Subframe.{flagOf}

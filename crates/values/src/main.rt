@@ -166,7 +166,7 @@ fn marks() {
     mark(32768);
 }
 
-// of so many peaks by their sum
+// of two numbers by their sum: below zero it is rounded down too, though no sum of peaks lies there
 fn mean_of_two(sum: i32) {
     line(b"mean of two by their sum", sum, totals::mean(sum, 2));
 }
