@@ -1,4 +1,5 @@
--- The theorems of the peak by distance (lines/specs/Peaks.antt) applied to samples, and frames' lines, computed. The theorem is `peaks-applied` in proofs/Peaks.antt.
+-- The theorems of the peak by distance (lines/specs/Peaks.antt) applied to samples, and frames' lines, computed.
+-- The theorem is `peaks-applied` in proofs/Peaks.antt.
 use mathlib.Core.Path.{_≡_}
 use mathlib.Core.Bool.{Bool, true, false}
 use mathlib.Core.List.{List, [], _∷_, _++_}

@@ -128,7 +128,7 @@ pub fn single(seed: u64) -> (Vec<i16>, Vec<i16>) {
 }
 
 /// A state and a sheet whose samples are all negative: a constant innovation and flat rows.
-fn all_negative(random: &mut Random) -> Option<Vec<u8>> {
+fn negative_input(random: &mut Random) -> Option<Vec<u8>> {
     for _ in 0..20_000 {
         let mut sheet = sheet(random);
         let level = random.word(-8192, -1);
@@ -256,7 +256,7 @@ fn marks(tally: &mut Tally, programs: &Programs, random: &mut Random) {
         tally.line(shown(&input) == (peak, largest, retried), &name);
         compare(tally, programs, &name, &[input]);
     }
-    let negative = all_negative(random);
+    let negative = negative_input(random);
     compare(tally, programs, "samples all negative", negative.as_slice());
 }
 

@@ -1,6 +1,6 @@
 //! What the shift report alone shows: totals of several frames, its limit, and how much it reads.
 
-use super::{Programs, all_negative, bytes_of, compare, process::Program, record_of, sheet};
+use super::{Programs, bytes_of, compare, negative_input, process::Program, record_of, sheet};
 use crate::{
     LSFS, SHEET, STATE, at,
     examples::lowered,
@@ -50,7 +50,7 @@ fn peaks(input: &[u8]) -> (u64, u64) {
 /// number: rounded to the nearest it would be another.
 fn uneven(random: &mut Random) -> Option<Vec<u8>> {
     let mut drawn = || {
-        let mut input = all_negative(random)?;
+        let mut input = negative_input(random)?;
         input.extend((0..2).flat_map(|_| bytes_of(&lowered(random))));
         Some(input)
     };
