@@ -4,7 +4,7 @@ use mathlib.Core.Bool.{Bool, true, false}
 use mathlib.Core.List.{List, [], _∷_}
 use Prim.Native.Nat.{ℕ, zero, suc, _<_}
 use native.Mathlib.Omega.{arith}
-use lib.IntN.{ℤ, pos, negℤ, natAbs}
+use lib.IntN.{ℤ, pos, negℤ}
 use lib.Signed.{_<ℤ_}
 use Rattle.lists.specs.Lists.{at, minus}
 use Rattle.lines.specs.Lines.{larger, largest, peakOf, anyOf, markOf, spelled, decimal, integer, frameLine}
@@ -28,14 +28,10 @@ least-is : lineOf false (minus 1 ∷ []) ≡ ascii "1 0000 1 -\n"
 unfolding lineOf frameLine peakOf largest markOf anyOf integer decimal spelled ascii
 least-is = refl
 
--- of two samples, and of one
+-- of two samples
 sides-of : (x y : ℤ) → peakOf (x ∷ y ∷ []) ≡ larger (larger x y) (larger (negℤ x) (negℤ y))
 unfolding largest
 sides-of x y = peak-sides (x ∷ y ∷ [])
-
-unsigned-of : (x : ℤ) → integer (pos (natAbs x)) ≡ decimal (natAbs x)
-unfolding peakOf largest
-unsigned-of x = peak-unsigned (x ∷ [])
 
 both : (x y : ℤ) → minus 32760 <ℤ x → minus 32760 <ℤ y → (i : ℕ) → i < 2 → minus 32760 <ℤ at (x ∷ y ∷ []) i
 both x y h k zero l = h
@@ -54,7 +50,7 @@ peaks-applied =
       below = below-is;
       least = least-is;
       sides = sides-of;
-      unsigned = unsigned-of;
+      unsigned = λ x y. peak-unsigned (x ∷ y ∷ []);
       kept = kept-of;
       loud = λ x y z flags h. mark-sides (x ∷ y ∷ z ∷ []) flags .loud 1 (omega arith) h;
     }

@@ -23,7 +23,7 @@ pub record PeaksApplied : Type 0 where
   pub least : lineOf false (minus 1 ∷ []) ≡ ascii "1 0000 1 -\n"
   -- PeakSides, PeakUnsigned
   pub sides : (x y : ℤ) → peakOf (x ∷ y ∷ []) ≡ larger (larger x y) (larger (negℤ x) (negℤ y))
-  pub unsigned : (x : ℤ) → integer (pos (natAbs x)) ≡ decimal (natAbs x)
+  pub unsigned : (x y : ℤ) → integer (peakOf (x ∷ y ∷ [])) ≡ decimal (natAbs (peakOf (x ∷ y ∷ [])))
   -- MarkSides: the mark of two samples, and a sample that makes it L
   pub kept : (x y : ℤ) (flags : List Bool) → minus 32760 <ℤ x → minus 32760 <ℤ y → markOf (peakOf (x ∷ y ∷ [])) flags ≡ markOf (larger x y) flags
   pub loud : (x y z : ℤ) (flags : List Bool) → y ≤ℤ minus 32760 → markOf (peakOf (x ∷ y ∷ z ∷ [])) flags ≡ 0x4C

@@ -34,7 +34,7 @@ unfoldable pub largest : List ℤ → ℤ
 largest [] = pos 0
 largest (x ∷ xs) = foldl larger x xs
 
--- the distance of a number from zero: -32768 is 32768 from it
+-- the distance of a number from zero is its magnitude: of -32768 it is 32768
 abbrev pub distance : ℤ → ℤ
 distance x = pos (natAbs x)
 
