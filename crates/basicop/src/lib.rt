@@ -1,4 +1,5 @@
 // The basic operators of TS 26.073, each equal to its definition in specs/Ops.antt, under the standard's names in lower case.
+#![tactic(auto)]
 ghost use Rattle.std.specs.Prelude.{◌≡◌, true, pos};
 ghost use Rattle.basicop.specs.Ops.{shl, quartered, l_mac};
 ghost use Rattle.basicop.specs.Inner.{Unclamped};
@@ -24,23 +25,23 @@ pub use shifting::{l_shl, l_shr, l_shr_r, opposite, shr};
 
 // A number that is handed on between functions has its scaling in its type: Qn is scaled by 2 ^ n.
 // Pitch gain and sharpening.
-#[derive(Drop)]
+#[derive(Clone, Copy)]
 pub struct Q14(pub i16);
 
 // Code gain.
-#[derive(Drop)]
+#[derive(Clone, Copy)]
 pub struct Q1(pub i16);
 
 // The innovation of a subframe, forty numbers.
-#[derive(Drop)]
+#[derive(Clone, Copy)]
 pub struct Q13(pub [i16; 40]);
 
 // Gain between two energies.
-#[derive(Drop)]
+#[derive(Clone, Copy)]
 pub struct Q12(pub i16);
 
 // Sharpening doubled, the tilt, an LSP.
-#[derive(Drop)]
+#[derive(Clone, Copy)]
 pub struct Q15(pub i16);
 
 // A 32-bit number in two halves, the standard's double precision format: hi * 65536 + lo * 2.

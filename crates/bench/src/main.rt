@@ -1,4 +1,5 @@
 // The bench program: reads a handover record and then frame sheets from standard input, and writes a line for each sheet.
+#![tactic(auto)]
 use libc::STDOUT_FILENO;
 use lines::LINE_ROOM;
 use sheets::{SHEET_BYTES, Step};

@@ -1,4 +1,5 @@
 // The bench program's steps: what it prints of each sheet that it reads, and the state for the next.
+#![tactic(auto)]
 ghost use Rattle.std.specs.Prelude.{◌≡◌, length, take};
 ghost use Rattle.mr74.specs.Frame.{call_result};
 ghost use Rattle.lines.specs.Put.{line_room, Within};

@@ -1,4 +1,5 @@
 // The core of a frame: everything up to the synthesis samples.
+#![tactic(auto)]
 mod enhancement;
 mod frame;
 mod subframe;
@@ -9,7 +10,7 @@ use lpc::Rows;
 use pitch::PitchLag;
 
 // The core's part of the state: fields 0 to 174 of the record, in its order.
-#[derive(Drop)]
+#[derive(Clone, Copy)]
 pub struct Core {
     // previous LSP (Q15)
     pub lsp: [i16; 10],
@@ -21,7 +22,7 @@ pub struct Core {
 }
 
 // What a subframe is decoded from.
-#[derive(Drop)]
+#[derive(Clone, Copy)]
 pub struct Parameters {
     pub lag: PitchLag,
     pub pitch: Q14,

@@ -1,4 +1,3 @@
--- Smoothing: the smoothed gain. Controls: agc2 and agc by the output's energy. Lent: forty samples and a gain control as machine values, for the two proofs by hand.
+-- Smoothing: the smoothed gain. Controls: agc2 and agc by the output's energy.
 pub mod Smoothing
 pub mod Controls
-pub mod Lent

@@ -1,4 +1,5 @@
 // Energies and the gains between them: energy_new, Inv_sqrt, agc2 and agc of TS 26.073.
+#![tactic(auto)]
 mod control;
 mod gain;
 mod root;
@@ -11,7 +12,7 @@ pub use root::inverse_sqrt;
 pub use sum::{energy, squares};
 
 // The smoothed gain (Q12), carried from subframe to subframe.
-#[derive(Drop)]
+#[derive(Clone, Copy)]
 pub struct GainControl {
     pub previous_gain: i16,
 }

@@ -1,1 +1,3 @@
 // Lists of integers: what contracts say of arrays, and the laws of loops over them. No function.
+
+#![tactic(auto)]

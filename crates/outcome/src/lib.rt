@@ -1,10 +1,11 @@
 // Refusals: what turns a call back, with its number and its place.
+#![tactic(auto)]
 ghost use Rattle.std.specs.Prelude.{◌≡◌, pos, length};
 ghost use Rattle.outcome.specs.Outcome.{number_of, place_of, is_accepted};
 ghost use Rattle.outcome.specs.Checks.{first_outside, first_close};
 
 // Document 01's refusals and document 02's, by their numbers. A place goes with 2, 3, 4 and 6.
-#[derive(Drop)]
+#[derive(Clone, Copy)]
 pub enum Outcome {
     Accepted,
     // 1

@@ -1,16 +1,17 @@
 // Lags from pitch indices: Dec_lag3 of TS 26.073.
+#![tactic(auto)]
 ghost use Rattle.std.specs.Prelude.{◌≡◌, pos};
 ghost use Rattle.pitch.specs.Lag.{absolute, relative, lag_min, thirds_of, lag_of};
 
 // A part of a sample, in thirds.
-#[derive(Drop)]
+#[derive(Clone, Copy)]
 pub enum Fraction {
     MinusThird,
     Zero,
     PlusThird,
 }
 
-#[derive(Drop)]
+#[derive(Clone, Copy)]
 pub struct PitchLag {
     pub samples: u16,
     pub fraction: Fraction,

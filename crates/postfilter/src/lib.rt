@@ -1,4 +1,5 @@
 // The postfilter: Post_Filter of TS 26.073, with Weight_Ai, Residu and preemphasis.
+#![tactic(auto)]
 ghost use Rattle.std.specs.Prelude.{◌≡◌, ◌++◌};
 ghost use Rattle.lists.specs.Lists.{at};
 ghost use Rattle.postfilter.specs.Residual.{residual};
@@ -16,7 +17,7 @@ use tilting::{impulse, tilt_of};
 use whitening::{residual, weight};
 
 // What a subframe leaves to the next: its last ten inputs, the last ten samples of its second synthesis, its last residual, and the smoothed gain.
-#[derive(Drop)]
+#[derive(Clone, Copy)]
 pub struct Postfilter {
     pub input_history: [i16; 10],
     pub synthesis_history: [i16; 10],

@@ -1,5 +1,6 @@
 // Runs the recorded answers of the reference, the files of data/, through the stages and the three calls, and says for each file how many records there are
 // and how many differ. A record is a row of 16-bit words, low byte first: inputs, then answers.
+#![tactic(auto)]
 ghost use Rattle.std.specs.Prelude.{◌≤◌};
 
 mod compare;

@@ -1,4 +1,5 @@
 // The shift report: reads a handover record and then frame sheets from standard input, and writes one line of totals.
+#![tactic(auto)]
 ghost use Rattle.std.specs.Prelude.{◌≡◌, ◌+◌, ◌≤◌, length};
 ghost use Rattle.lines.specs.Put.{line_room, Within};
 ghost use Rattle.shift_report.specs.Steps.{sheets_counted, Bounded};

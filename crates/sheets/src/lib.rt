@@ -1,4 +1,5 @@
 // What a program of the bench reads: a record, then sheets one by one.
+#![tactic(auto)]
 ghost use Rattle.std.specs.Prelude.{◌≡◌, length, take};
 ghost use Rattle.mr74.specs.Frame.{call_result};
 ghost use Rattle.lines.specs.Put.{line_room, Within};

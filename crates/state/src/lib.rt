@@ -1,4 +1,5 @@
 // The state that is carried between frames, and what turns it back.
+#![tactic(auto)]
 ghost use Rattle.std.specs.Prelude.{◌≡◌};
 ghost use Rattle.outcome.specs.Checks.{first_met};
 ghost use Rattle.state.specs.State.{state_checks};
@@ -8,7 +9,7 @@ use outcome::Outcome;
 use postfilter::Postfilter;
 
 // In the record's order: the core's numbers (fields 0 to 174) and the postfilter's (175 to 196).
-#[derive(Drop)]
+#[derive(Clone, Copy)]
 pub struct State {
     pub core: Core,
     pub post: Postfilter,

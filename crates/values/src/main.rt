@@ -1,4 +1,5 @@
 // Runs document 01's values to hold through the code, the starred ones among them, means of peaks and shift reports, and prints each with its input.
+#![tactic(auto)]
 use libc::STDOUT_FILENO;
 use lines::LINE_ROOM;
 use pitch::{Fraction, PitchLag};

@@ -1,0 +1,12 @@
+-- `adaptive::predict` meets its contract: a copy of the samples after the history.
+use mathlib.Core.Path.{ap, ◌∙◌}
+use borrow.Author.Rules.{rules}
+use lib.ListN.{drop}
+use Rattle.lists.proofs.Entries.{stretch_end}
+use Rattle.adaptive.specs.Predict.{predicted}
+use Rattle.adaptive.proofs.predict.Goals as goal
+
+pub returns : goal.returns
+unfolding predicted
+returns c =
+    c.copy.ensures ∙ stretch_end c.extended-buffer.result 154 40 (search rules) ∙ ap (drop 154) c.extended-buffer.ensures

@@ -1,0 +1,6 @@
+-- `l_msu` meets its contract: the calls are the definition's.
+use Rattle.basicop.proofs.Calls.{rules_ℤ, callsℤ}
+use Rattle.basicop.proofs.arithmetic.l_msu.Goals as goal
+
+pub returns : goal.returns
+returns c = search callsℤ depth 20

@@ -1,0 +1,6 @@
+-- `doubled` meets its contract: the call is the definition's.
+use Rattle.basicop.proofs.Calls.{rules_ℤ, callsℤ}
+use Rattle.basicop.proofs.doubled.Goals as goal
+
+pub returns : goal.returns
+returns c = search callsℤ depth 20

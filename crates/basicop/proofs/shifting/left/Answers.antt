@@ -1,0 +1,26 @@
+-- `left` meets its contract: a count above 31 clamps as 31 does.
+use mathlib.Core.Path.{◌∙◌}
+use Prim.Native.Nat.{min, ◌<◌, ◌+◌, ◌^◌}
+use native.Mathlib.Omega.{arith}
+use lib.Pow.{pow_mono}
+use lib.Signed.{mag}
+use mir.Syntax.{w32, w64}
+use mir.Facts.{to_z-of_z}
+use Rattle.lists.proofs.Signed.{got}
+use Rattle.basicop.proofs.Calls.{rules_ℤ}
+use Rattle.basicop.proofs.Clamp.{clamp_min}
+use Rattle.basicop.proofs.shifting.left.Goals as goal
+
+pub overflow_cast-x : goal.overflow_cast-x
+overflow_cast-x c = search rules_ℤ
+
+pub overflow_mul-x : goal.overflow_mul-x
+overflow_mul-x c =
+    let small : mag c.pow2.result < 2 ^ 31 + 1 = rw c.pow2.ensures (omega (arith, pow_mono {i = min c.args.n 31} {j = 31} (omega arith))) in
+    search rules_ℤ depth 9
+
+pub returns : goal.returns
+returns c =
+    let s = c.before.before in
+    got w32 c.clamp32.type_inv
+    (rw (to_z-of_z (overflow_mul-x c.before), to_z-of_z (overflow_cast-x s), to_z-of_z c.ranges.x, got w64 c.pow2.type_inv c.pow2.ensures) at c.clamp32.ensures ∙ clamp_min w32 c.args.x c.args.n)

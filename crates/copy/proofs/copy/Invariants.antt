@@ -1,0 +1,15 @@
+-- `copy::copy` meets its contract: after i turns the first i numbers are those of the source.
+use Prim.Native.Nat.{◌≤◌, ◌-◌}
+use borrow.Author.Rules.{rules}
+use lib.ListN.{length}
+use mir.Syntax.{w16}
+use Rattle.lists.specs.Lists.{at}
+use Rattle.lists.proofs.Signed.{back}
+use Rattle.lists.proofs.Fill.{Filled, fill_none, fill_more, fill_whole}
+use Rattle.copy.proofs.copy.Given as goal
+
+abbrev pub invariant-loop-i : goal.invariant-loop-i
+invariant-loop-i l = (l.i ≤ length l.src) × Filled (length l.src) (length l.src) l.src l.dst l.i
+
+abbrev pub decreases-loop-i : goal.decreases-loop-i
+decreases-loop-i l = length l.src - l.i

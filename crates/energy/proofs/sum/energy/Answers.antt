@@ -1,0 +1,21 @@
+-- `energy` meets its contract: the sum is at the limit where it is above 2147483646.
+use mathlib.Core.Path.{ap, ◌∙◌}
+use borrow.Author.Rules.{rules}
+use mir.Syntax.{w32}
+use Rattle.lists.proofs.Signed.{got}
+use Rattle.basicop.proofs.Tests.{less_yes, less_no}
+use Rattle.energy.specs.Energy.{squares}
+use Rattle.energy.proofs.Tests.{shift_back}
+use Rattle.energy.proofs.Sums.{energy_again, energy_once}
+use Rattle.energy.proofs.sum.energy.Goals as goal
+
+pub returns-then-sum-gt2147483646 : goal.returns-then-sum-gt2147483646
+returns-then-sum-gt2147483646 c =
+    let q = c.before.before.before in
+    got w32 c.squares.type_inv (c.squares.ensures ∙ ap squares c.quarter.ensures)
+    ∙ energy_again c.args.samples (less_yes (rw (got w32 c.squares-sum.type_inv c.squares-sum.ensures) at c.if-sum-gt2147483646.true))
+
+pub returns : goal.returns
+returns c =
+    shift_back w32 4 c.squares-sum.type_inv c.squares-sum.ensures
+    ∙ energy_once c.args.samples (less_no (rw (got w32 c.squares-sum.type_inv c.squares-sum.ensures) at c.if-sum-gt2147483646.false))

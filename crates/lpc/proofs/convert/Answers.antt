@@ -1,0 +1,13 @@
+-- `convert` meets its contract: each polynomial of degree 5 fills its six coefficients, and the row is made of the two.
+use borrow.Author.Rules.{rules}
+use mathlib.Core.Path.{sym, ap₂, ◌∙◌}
+use lib.Seq.{take_all}
+use Rattle.lpc.specs.Rows.{row, row_of}
+use Rattle.lpc.proofs.convert.Goals as goal
+
+pub returns : goal.returns
+unfolding row_of
+returns c =
+    let f = c.polynomial-f in
+    let g = c.polynomial-g in
+    c.row.ensures ∙ ap₂ row (sym (take_all 6 f.result (search rules)) ∙ f.ensures) (sym (take_all 6 g.result (search rules)) ∙ g.ensures)
