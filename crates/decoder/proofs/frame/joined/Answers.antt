@@ -6,22 +6,17 @@ use borrow.Author.Rules.{rules}
 use lib.IntN.{ℤ}
 use lib.ListN.{length, take}
 use lib.Seq.{take_all}
-use Rattle.decoder.proofs.frame.joined.Statement.{statement}
-use Rattle.decoder.proofs.frame.joined.Tie as tie
+use Rattle.decoder.proofs.frame.joined.Goals as goal
 
 joined_is : (a b c d r s t u : List ℤ) → take 40 r ≡ a → take 80 s ≡ take 40 r ++ b → take 120 t ≡ take 80 s ++ c → take 160 u ≡ take 120 t ++ d → length u ≡ 160 → u ≡ a ++ (b ++ (c ++ d))
 joined_is a b c d r s t u er es et eu l =
     sym (take_all 160 u (omega (arith, l))) ∙ eu ∙ rw (et, es, er) (append_assoc (a ++ b) c d ∙ append_assoc a b (c ++ d))
 
-returns : tie.Need-returns
+pub returns : goal.returns
 returns c =
-    joined_is _ _ _ _ c.before.before.before.put.result c.before.before.put2.result c.before.put3.result c.put4.result
-    c.before.before.before.put.ensures
-    c.before.before.put2.ensures
-    c.before.put3.ensures
-    c.put4.ensures
+    joined_is _ _ _ _ c.put-first.result c.put-second.result c.put-third.result c.put.result
+    c.put-first.ensures
+    c.put-second.ensures
+    c.put-third.ensures
+    c.put.ensures
     (search rules)
-
-pub joined_spec : {M : Type 1} → statement M
-joined_spec =
-    tie.close (tie.spec (λ c κs. search rules) (λ c κs. search rules) (λ c κs. search rules) (λ c κs. search rules) returns)

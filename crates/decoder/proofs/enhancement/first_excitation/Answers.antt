@@ -13,8 +13,8 @@ use Rattle.basicop.proofs.Clamp.{clamp_above}
 use Rattle.energy.specs.Gain.{agc2}
 use Rattle.excitation.specs.Excitation.{sharpening}
 use Rattle.decoder.specs.Enhance.{enhanced, first_excitation}
-use Rattle.decoder.proofs.enhancement.first_excitation.Statement.{statement}
-use Rattle.decoder.proofs.enhancement.first_excitation.Tie as tie
+use Rattle.decoder.proofs.enhancement.first_excitation.Goals as goal
+use Rattle.decoder.proofs.enhancement.first_excitation.Goals.{After-doubled-doubled}
 
 module _ (v : List ℤ) (pitch : ℤ) (exc : List ℤ) {g : ℤ} (e : g ≡ shl (sharpening pitch) (pos 1)) where
   above : lt_z (pos 16384) g ≡ true → (agc2 exc (enhanced g pitch exc v)).value ≡ (first_excitation v pitch exc).value
@@ -26,31 +26,18 @@ module _ (v : List ℤ) (pitch : ℤ) (exc : List ℤ) {g : ℤ} (e : g ≡ shl 
   within t = rw (← e, clamp_above w16 g (pos 16384), t)
 
 -- the doubled sharpening, and its range
-doubled_is : (c : tie.After-doubled) → c.doubled.result.0 ≡ shl (sharpening c.before.before.args.pitch.0) (pos 1)
-doubled_is c = c.doubled.ensures ∙ ap (λ (z : ℤ). shl z (pos 1)) c.before.next-sharpening.ensures
+doubled_is : (c : After-doubled-doubled) → c.doubled-doubled.result.0 ≡ shl (sharpening c.args.pitch.0) (pos 1)
+doubled_is c = c.doubled-doubled.ensures ∙ ap (λ (z : ℤ). shl z (pos 1)) c.next_sharpening.ensures
 
-returns : tie.Need-returns
-returns c =
+pub returns-then-doubled-gt16384 : goal.returns-then-doubled-gt16384
+returns-then-doubled-gt16384 c =
     let d = c.before.before.before.before.before in
-    let s = d.before.before in
-    let f : SFits w16 d.doubled.result.0 = search rules in
-    c.match-energy.ensures
-    ∙ rw c.before.enhanced.ensures (above s.args.adaptive s.args.pitch.0 s.args.feedback (doubled_is d) (rw (to_z-of_z f) at c.before.before.if1.true))
+    let f : SFits w16 c.doubled-doubled.result.0 = search rules in
+    c.match_energy.ensures
+    ∙ rw c.enhanced.ensures (above c.args.adaptive c.args.pitch.0 c.args.feedback (doubled_is d) (rw (to_z-of_z f) at c.if-doubled-gt16384.true))
 
-returns_2 : tie.Need-returns-2
-returns_2 c =
+pub returns : goal.returns
+returns c =
     let d = c.before.before.before in
-    let s = d.before.before in
-    let f : SFits w16 d.doubled.result.0 = search rules in
-    within s.args.adaptive s.args.pitch.0 s.args.feedback (doubled_is d) (rw (to_z-of_z f) at c.if1.false)
-
-pub first_excitation_spec : {M : Type 1} → statement M
-first_excitation_spec =
-    tie.close
-    (tie.spec
-    (λ c κs. search rules)
-    (λ c κs. search rules)
-    (λ c κs. search rules)
-    (λ c κs. search rules)
-    returns
-    returns_2)
+    let f : SFits w16 c.doubled-doubled.result.0 = search rules in
+    within c.args.adaptive c.args.pitch.0 c.args.feedback (doubled_is d) (rw (to_z-of_z f) at c.if-doubled-gt16384.false)
