@@ -1,0 +1,7 @@
+-- `postfilter::emphasised` meets its contract: the calls are the definition's.
+use borrow.Author.Rules.{rules}
+use Rattle.basicop.proofs.Calls.{callsℤ}
+use Rattle.postfilter.proofs.emphasised.Goals as goal
+
+pub returns : goal.returns
+returns c = search callsℤ depth 20

@@ -1,0 +1,20 @@
+-- `postfilter::filter` meets its contract: the subframe by its steps.
+use mathlib.Core.Path.{◌∙◌}
+use borrow.Author.Rules.{rules}
+use Prim.Native.Nat.{◌<◌, ◌^◌}
+use lib.Signed.{mag}
+use mir.Syntax.{w16}
+use mir.Val.{hbits}
+use Rattle.lists.proofs.Signed.{back}
+use Rattle.postfilter.specs.Weight.{numerator, denominator}
+use Rattle.postfilter.proofs.Subframes.{filtered_by}
+use Rattle.postfilter.proofs.filter.Goals as goal
+
+pub returns : goal.returns
+unfolding numerator denominator
+returns c =
+    let a = c.args in
+    let m = a.memory in
+    let r = back w16 {z = m.previous_residual} (search rules) in
+    let l = back w16 {z = c.excitation-excited.result.last} (search rules) in
+    filtered_by m a.coefficients a.samples c.weight-numerator.ensures c.weight-denominator.ensures (c.tilt_of-tilt.ensures ∙ rw c.impulse.ensures) (rw r at c.excitation-excited.ensures.0) (l ∙ c.excitation-excited.ensures.1) c.filter-out.ensures c.control_gain-controlled.ensures c.newest-input_history.ensures
