@@ -1,5 +1,6 @@
 // The bench program's lines: decimal numbers, peak, mark, and each line as bytes.
 #![tactic(auto)]
+
 ghost use Rattle.std.specs.Prelude.{◌≡◌, length, take};
 ghost use Rattle.lines.specs.Lines.{frame_line, refused_line, cut_line, state_line};
 ghost use Rattle.lines.specs.Put.{line_room, Within};
