@@ -1,5 +1,6 @@
 // The frame call of MR74.
 #![tactic(auto)]
+
 ghost use Rattle.std.specs.Prelude.{◌≡◌, map};
 ghost use Rattle.decoder.specs.Inputs.{inputs_of, Usable};
 ghost use Rattle.decoder.specs.Subframe.{flag_of};

@@ -1,5 +1,6 @@
 // The handover record: its reader and its writer.
 #![tactic(auto)]
+
 ghost use Rattle.std.specs.Prelude.{◌≡◌, length};
 ghost use Rattle.record.specs.Record.{record_length, refused_answer, read_call, read_result, trailer_bytes, encoded, write_result, write_call};
 
