@@ -1,5 +1,6 @@
 // The frame call, the reader and the writer over bytes, exported for C and Rust (c/mr74.h).
 #![tactic(auto)]
+
 ghost use Rattle.std.specs.Prelude.{◌≡◌, ◌<◌};
 ghost use Rattle.outcome.specs.Outcome.{place_of};
 ghost use Rattle.capi.specs.Capi.{fits, code_of, frame_return, frame_bytes, read_return, read_bytes, write_return, write_bytes};
