@@ -1,5 +1,6 @@
 // The bench program's steps: what it prints of each sheet that it reads, and the state for the next.
 #![tactic(auto)]
+
 ghost use Rattle.std.specs.Prelude.{◌≡◌, length, take};
 ghost use Rattle.mr74.specs.Frame.{call_result};
 ghost use Rattle.lines.specs.Put.{line_room, Within};
@@ -35,8 +36,8 @@ fn whole_step(line: &mut [u8], number: u64, bytes: &[u8], state: State) -> Step
     let decoded = sheets::decode_bytes(bytes, state);
     let answer = decoded.answer;
     let samples = decoded.samples;
-    let count = answer_line(line, number, answer, samples);
     let next = answer.next;
+    let count = answer_line(line, number, answer, samples);
     Step {
         count,
         next,

@@ -1,5 +1,6 @@
 // The code of the shift report: running sums over the sheets of a call, the step that adds one, and the line.
 #![tactic(auto)]
+
 ghost use Rattle.std.specs.Prelude.{◌≡◌, ◌+◌, ◌≤◌, min, length, take};
 ghost use Rattle.lines.specs.Put.{line_room, Within};
 ghost use Rattle.sheets.specs.Sheets.{record_bytes};

@@ -8,23 +8,19 @@ use Rattle.basicop.proofs.Calls.{rules_ℤ}
 use Rattle.basicop.proofs.Range.{cast_asks, nat_abs_mul, widened}
 use Rattle.shift_report.proofs.Squares.{square_most}
 use Rattle.totals.proofs.Squares.{square_fits, square_from}
-use Rattle.totals.proofs.sums.square.Statement.{statement}
-use Rattle.totals.proofs.sums.square.Tie as tie
+use Rattle.totals.proofs.sums.square.Goals as goal
 
 wide : (x : ℤ) → SFits w16 x → to_z w32 (of_z w32 (to_z w16 (of_z w16 x))) ≡ x
 wide x f = widened w16 w32 x f tt
 
-mul_result : tie.Need-overflow-mul-result
-mul_result c = let x = c.args.x in rw (wide x c.ranges.x) (square_fits x c.ranges.x)
+pub overflow_mul-result : goal.overflow_mul-result
+overflow_mul-result c = let x = c.args.x in rw (wide x c.ranges.x) (square_fits x c.ranges.x)
 
-cast_result : tie.Need-overflow-cast-result
-cast_result c = let x = c.args.x in rw (wide x c.ranges.x) (cast_asks w32 w64 (x *ℤ x) (square_fits x c.ranges.x) (square_from x) tt)
+pub overflow_cast-result : goal.overflow_cast-result
+overflow_cast-result c = let x = c.args.x in rw (wide x c.ranges.x) (cast_asks w32 w64 (x *ℤ x) (square_fits x c.ranges.x) (square_from x) tt)
 
-returns : tie.Need-returns
+pub returns : goal.returns
 returns c =
     let x = c.args.x in
     let f = c.ranges.x in
-    rw (wide x f, to_z-of_z (square_fits x f), nat_abs_mul x x) (refl, square_most x f)
-
-pub square_spec : {M : Type 1} → statement M
-square_spec = tie.close (tie.spec (λ c. search rules_ℤ) mul_result cast_result returns)
+    rw (wide x f, to_z-of_z (square_fits x f), nat_abs_mul x x) (record { square = refl; most = square_most x f })

@@ -1,0 +1,13 @@
+-- `totals::run` meets its contract: at each turn the loop's totals from here are those of all the sheets.
+use Prim.Native.Nat.{ℕ, ◌+◌, ◌-◌}
+use mathlib.Core.Path.{◌≡◌}
+use borrow.Author.Rules.{rules}
+use native.Mathlib.Omega.{arith}
+use Rattle.totals.proofs.Runs.{Running, running_none, running_more, running_short, running_full}
+use Rattle.totals.proofs.run.Given as goal
+
+abbrev pub invariant-loop-number : goal.invariant-loop-number
+invariant-loop-number l = Running l.bytes l.initial.state l.totals l.state l.at l.number
+
+abbrev pub decreases-loop-number : goal.decreases-loop-number
+decreases-loop-number l = 65535 - l.number
