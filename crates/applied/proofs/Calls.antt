@@ -13,11 +13,11 @@ pub calls_applied : CallsApplied
 calls_applied =
     let w = example.well_formed in
     record {
-      refused = one.next-refused silent empty_call (ap (λ (t : Trace). accepted t) (refused_trace_lem silent));
+      refused = one.next_refused silent empty_call (ap (λ (t : Trace). accepted t) (refused_trace_lem silent));
       next_well_formed = one.next_well_formed silent call w;
       next_accepted = one.next_accepted silent call w (ap (λ (e : Seen). e.accepted) example.call);
       list_well_formed = lists.list_well_formed calls silent w;
       list_accepted = lists.list_accepted calls silent w example.state;
-      run = lists.run-append (call ∷ []) (empty_call ∷ []) silent;
-      after = lists.after-append (call ∷ []) (empty_call ∷ []) silent;
+      run = lists.run_append (call ∷ []) (empty_call ∷ []) silent;
+      after = lists.after_append (call ∷ []) (empty_call ∷ []) silent;
     }

@@ -53,11 +53,11 @@ report_line_lem = refl
 
 -- one of the others is decoded
 gap_lines : bench_output gap_input ≡ gap_output
-unfolding flat_map iter tab clamp asr wrap add sub mult shl l_add l_sub l_mult l_shl l_shr_r l_deposit_h doublings norm_l div_s l_extract mpy_32_16 absolute lag_min relative cosine between lsp_of raised_at polynomial row_of rows_of inter6 phase start interpolated extended predicted sharpened sharpening feedback squares energy energy_gain agc2 inverse_table root_scaled inverse_root outside recursion step_numbers some_outside some_list_outside first_list_outside acc accs enhanced first_excitation synthesis_result excitations subframe_result subframe_results core_result first_met state_of core_of post_of first_outside first_close frame_outcome frame_trace numerator denominator weighted residual_sum residual tilts.impulse tilts.correlation tilts.tiltOf tilts.tilt preemphasised filter_result postfilter_result agc controlled words read_call record_outcome spelled decimal integer largest peak_of any_of mark_of frame_line refused_line cut_line frame_call sheets_of sheet_call answer_line sheet_lines bench_output ascii input gap_input loud bytes_of state_outcome one_if run_calls retried_in square_sum accepted_count refused_count retried_total square_total peak_total whole_sheets sheet_traces mean_of mean_field report_line report_output
+unfolding flat_map iter tab clamp asr wrap add sub mult shl l_add l_sub l_mult l_shl l_shr_r l_deposit_h doublings norm_l div_s l_extract mpy_32_16 absolute lag_min relative cosine between lsp_of raised_at polynomial row_of rows_of inter6 phase start interpolated extended predicted sharpened sharpening feedback squares energy energy_gain agc2 inverse_table root_scaled inverse_root outside recursion step_numbers some_outside some_list_outside first_list_outside acc accs enhanced first_excitation synthesis_result excitations subframe_result subframe_results core_result first_met state_of core_of post_of first_outside first_close frame_outcome frame_trace numerator denominator weighted residual_sum residual tilts.impulse tilts.correlation tilts.tilt_of tilts.tilt preemphasised filter_result postfilter_result agc controlled words read_call record_outcome spelled decimal integer largest peak_of any_of mark_of frame_line refused_line cut_line frame_call sheets_of sheet_call answer_line sheet_lines bench_output ascii input gap_input loud bytes_of state_outcome one_if run_calls retried_in square_sum accepted_count refused_count retried_total square_total peak_total whole_sheets sheet_traces mean_of mean_field report_line report_output
 gap_lines = refl
 
 gap_report : report_output gap_input ≡ ascii "1 5 0 0 0\n"
-unfolding flat_map iter tab clamp asr wrap add sub mult shl l_add l_sub l_mult l_shl l_shr_r l_deposit_h doublings norm_l div_s l_extract mpy_32_16 absolute lag_min relative cosine between lsp_of raised_at polynomial row_of rows_of inter6 phase start interpolated extended predicted sharpened sharpening feedback squares energy energy_gain agc2 inverse_table root_scaled inverse_root outside recursion step_numbers some_outside some_list_outside first_list_outside acc accs enhanced first_excitation synthesis_result excitations subframe_result subframe_results core_result first_met state_of core_of post_of first_outside first_close frame_outcome frame_trace numerator denominator weighted residual_sum residual tilts.impulse tilts.correlation tilts.tiltOf tilts.tilt preemphasised filter_result postfilter_result agc controlled words read_call record_outcome spelled decimal integer largest peak_of any_of mark_of frame_line refused_line cut_line frame_call sheets_of sheet_call answer_line sheet_lines bench_output ascii input gap_input loud bytes_of state_outcome one_if run_calls retried_in square_sum accepted_count refused_count retried_total square_total peak_total whole_sheets sheet_traces mean_of mean_field report_line report_output
+unfolding flat_map iter tab clamp asr wrap add sub mult shl l_add l_sub l_mult l_shl l_shr_r l_deposit_h doublings norm_l div_s l_extract mpy_32_16 absolute lag_min relative cosine between lsp_of raised_at polynomial row_of rows_of inter6 phase start interpolated extended predicted sharpened sharpening feedback squares energy energy_gain agc2 inverse_table root_scaled inverse_root outside recursion step_numbers some_outside some_list_outside first_list_outside acc accs enhanced first_excitation synthesis_result excitations subframe_result subframe_results core_result first_met state_of core_of post_of first_outside first_close frame_outcome frame_trace numerator denominator weighted residual_sum residual tilts.impulse tilts.correlation tilts.tilt_of tilts.tilt preemphasised filter_result postfilter_result agc controlled words read_call record_outcome spelled decimal integer largest peak_of any_of mark_of frame_line refused_line cut_line frame_call sheets_of sheet_call answer_line sheet_lines bench_output ascii input gap_input loud bytes_of state_outcome one_if run_calls retried_in square_sum accepted_count refused_count retried_total square_total peak_total whole_sheets sheet_traces mean_of mean_field report_line report_output
 gap_report = refl
 
 pub listing : Listing

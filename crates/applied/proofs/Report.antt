@@ -45,7 +45,7 @@ unfolding mean_of
 mean_is = refl
 
 -- with the refused sheet's own trace
-step_is : totals_of (two ++ (calls.traceOf silent (call_of bad_sheet) ∷ [])) ≡ expected
+step_is : totals_of (two ++ (calls.trace_of silent (call_of bad_sheet) ∷ [])) ≡ expected
 unfolding one_if retried_in square_sum accepted_count refused_count retried_total square_total peak_total largest peak_of frame_trace frame_outcome first_met first_outside first_close words silent state_of core_of post_of
 step_is = refl
 
@@ -68,20 +68,20 @@ unread_behind sheets more e = sym (unread (zero_record ++ sheets ++ more)) ∙ a
 
 pub report_applied : ReportApplied
 report_applied =
-    let b = widths.totals-bounded silent calls example.well_formed in
+    let b = widths.totals_bounded silent calls example.well_formed in
     record {
       totals = totals_are;
       line = line_is;
-      step = steps.step-totals two silent bad_sheet refl ∙ step_is;
-      listing = steps.steps-report input ∙ listing.report;
-      gaps = steps.steps-report gap_input ∙ listing.gap_report;
-      alone = steps.steps-report zero_record ∙ alone_is;
-      short = steps.steps-report [] ∙ none_refused;
+      step = steps.step_totals two silent bad_sheet refl ∙ step_is;
+      listing = steps.steps_report input ∙ listing.report;
+      gaps = steps.steps_report gap_input ∙ listing.gap_report;
+      alone = steps.steps_report zero_record ∙ alone_is;
+      short = steps.steps_report [] ∙ none_refused;
       unread = unread_behind;
       mean = mean_is;
       floor = subst (λ (m : ℤ). ((m *ℤ pos 2) ≤ℤ minus 73) × (minus 73 <ℤ ((m +ℤ pos 1) *ℤ pos 2))) mean_is (mean_floor (minus 73) 2 (lit< tt));
       retried = omega (arith, b.retried, one_accepted);
       squares = omega (arith, b.squares, one_accepted);
       peaks = omega (arith, b.peaks, one_accepted);
-      within = widths.totals-within silent calls example.well_formed (lit≤ tt);
+      within = widths.totals_within silent calls example.well_formed (lit≤ tt);
     }
