@@ -1,48 +1,53 @@
 // The bench program: reads a handover record and then frame sheets from standard input, and writes a line for each sheet.
 #![tactic(auto)]
-use libc::STDOUT_FILENO;
+
 use lines::LINE_ROOM;
 use sheets::{SHEET_BYTES, Step};
 use state::State;
+use std::io;
+use std::io::{Read, Write};
 
 // Reads what comes of a sheet, takes the step on it, and writes what the step prints.
-fn serve_sheet(state: State, number: u64) -> Step {
+fn serve_sheet<R: Read, W: Write>(
+    input: &mut R,
+    output: &mut W,
+    state: State,
+    number: u64,
+) -> io::Result<Step> {
     let mut bytes = [0u8; SHEET_BYTES];
-    let n = sheets::read_sheet(&mut bytes);
+    let n = sheets::read_sheet(input, &mut bytes)?;
     let mut line = [0u8; LINE_ROOM];
     let step = bench_output::step(&mut line, number, &bytes[..n], state);
-    let count = step.count;
-    let next = step.next;
-    let written = io::write_all(STDOUT_FILENO, &line[..count]);
-    Step {
-        count,
-        next,
-        more: step.more & written,
-    }
+    output.write_all(&line[..step.count])?;
+    Ok(step)
 }
 
 // Nothing says that the input ends, so the loop counts its rounds.
-fn run(first: State) {
+fn run<R: Read, W: Write>(input: &mut R, output: &mut W, first: State) -> io::Result<()> {
     let mut state = first;
     let mut number: u64 = 0;
     while number < u64::MAX {
         number += 1;
-        let step = serve_sheet(state, number);
-        let next = step.next;
-        state = next;
+        let step = serve_sheet(input, output, state, number)?;
+        state = step.next;
         if !step.more {
             break;
         }
     }
+    Ok(())
 }
 
-fn main() {
+// Reads all, and writes the lines.
+fn serve<R: Read, W: Write>(input: &mut R, output: &mut W) -> io::Result<()> {
     let mut line = [0u8; LINE_ROOM];
-    let opening = sheets::read_record(&mut line);
-    let count = opening.count;
-    let written = io::write_all(STDOUT_FILENO, &line[..count]);
-    if opening.more & written {
-        let state = opening.next;
-        run(state);
+    let opening = sheets::read_record(input, &mut line)?;
+    output.write_all(&line[..opening.count])?;
+    if opening.more {
+        run(input, output, opening.next)?;
     }
+    Ok(())
+}
+
+fn main(rt: HostRuntime) -> io::Result<()> {
+    serve(&mut rt.stdin(), &mut rt.stdout())
 }

@@ -1,6 +1,7 @@
 // Runs the recorded answers of the reference, the files of data/, through the stages and the three calls, and says for each file how many records there are
 // and how many differ. A record is a row of 16-bit words, low byte first: inputs, then answers.
 #![tactic(auto)]
+
 ghost use Rattle.std.specs.Prelude.{◌≤◌};
 
 mod compare;
@@ -10,18 +11,16 @@ mod records;
 mod stages;
 mod words;
 
-use libc::STDOUT_FILENO;
+use std::io::Read;
+use std::rt::Files;
+use std::{fs, io};
 
-fn cut_records() {
+fn cut_records(rt: &impl Print) -> io::Result<()> {
     let mut r = [0u8; 402];
-    let refusal = records::write_zeros(&mut r);
-    io::write_all(STDOUT_FILENO, b"record of zeros: ");
-    io::print_decimal(STDOUT_FILENO, refusal);
-    io::write_all(STDOUT_FILENO, b" written, ");
-    io::print_decimal(STDOUT_FILENO, records::refusal_of(&r));
-    io::write_all(STDOUT_FILENO, b" read, 402 cuts, ");
-    io::print_decimal(STDOUT_FILENO, records::cuts(&r));
-    io::write_all(STDOUT_FILENO, b" different\n");
+    let written = records::write_zeros(&mut r);
+    let read = records::refusal_of(&r);
+    let different = records::cuts(&r);
+    println!(rt; "record of zeros: {written} written, {read} read, 402 cuts, {different} different")
 }
 
 // The stage of a file, by its number, on a record.
@@ -54,32 +53,32 @@ struct Counts {
 }
 
 // Reads a record into lent bytes and answers 0 where there is none, 1 where the stage agrees with it, 2 where it differs.
-fn record_agrees(fd: i32, stage: u32, b: &mut [u8]) -> u32 {
-    let n = io::read_full(fd, b);
+fn record_agrees<R: Read>(input: &mut R, stage: u32, b: &mut [u8]) -> io::Result<u32> {
+    let n = sheets::read_full(input, b)?;
     if n == 0 {
-        return 0;
+        return Ok(0);
     }
     if n < b.len() {
-        return 2;
+        return Ok(2);
     }
-    if agrees(stage, b) { 1 } else { 2 }
+    Ok(if agrees(stage, b) { 1 } else { 2 })
 }
 
-fn record(fd: i32, stage: u32, size: usize) -> u32
+fn record<R: Read>(input: &mut R, stage: u32, size: usize) -> io::Result<u32>
     requires { size ≤ 2048 }
 {
     let mut buffer = [0u8; 2048];
-    record_agrees(fd, stage, &mut buffer[0..size])
+    record_agrees(input, stage, &mut buffer[0..size])
 }
 
 // All the records of a file, at most a million: nothing says that a file ends.
-fn run(fd: i32, stage: u32, size: usize) -> Counts
+fn run<R: Read>(input: &mut R, stage: u32, size: usize) -> io::Result<Counts>
     requires { size ≤ 2048 }
 {
     let mut records: u64 = 0;
     let mut different: u64 = 0;
     while records < 1000000 {
-        let seen = record(fd, stage, size);
+        let seen = record(input, stage, size)?;
         if seen == 0 {
             break;
         }
@@ -88,44 +87,39 @@ fn run(fd: i32, stage: u32, size: usize) -> Counts
             different += 1;
         }
     }
-    Counts { records, different }
+    Ok(Counts { records, different })
 }
 
-fn file(name: &[u8], stage: u32, words: usize)
+fn file(rt: &(impl Files + Print), name: &str, stage: u32, words: usize) -> io::Result<()>
     requires { words ≤ 1024 }
 {
-    io::write_all(STDOUT_FILENO, name);
-    let fd = os::open_read(name);
-    if fd < 0 {
-        io::write_all(STDOUT_FILENO, b": missing\n");
-        return;
-    }
-    let counts = run(fd, stage, 2 * words);
-    libc::close(fd);
-    io::write_all(STDOUT_FILENO, b": ");
-    io::print_decimal(STDOUT_FILENO, counts.records);
-    io::write_all(STDOUT_FILENO, b" records, ");
-    io::print_decimal(STDOUT_FILENO, counts.different);
-    io::write_all(STDOUT_FILENO, b" different\n");
+    print!(rt; "{name}")?;
+    let Ok(mut input) = fs::open(rt, name) else {
+        return println!(rt; ": missing");
+    };
+    let counts = run(&mut input, stage, 2 * words)?;
+    let records = counts.records;
+    let different = counts.different;
+    println!(rt; ": {records} records, {different} different")
 }
 
-fn main() {
-    file(b"lsp.bin", 0, 20);
-    file(b"coefficient.bin", 1, 3);
-    file(b"convert.bin", 2, 21);
-    file(b"interpolate.bin", 3, 64);
-    file(b"lag.bin", 4, 5);
-    file(b"predict.bin", 5, 196);
-    file(b"energy.bin", 6, 42);
-    file(b"inverse_sqrt.bin", 7, 4);
-    file(b"match_energy.bin", 8, 120);
-    file(b"gain_control.bin", 9, 122);
-    file(b"synthesis.bin", 10, 112);
-    file(b"postfilter.bin", 11, 408);
-    file(b"frame_kept.bin", 12, 784);
-    file(b"frame_extreme.bin", 12, 784);
-    file(b"refused.bin", 15, 385);
-    file(b"record_read.bin", 13, 410);
-    file(b"record_write.bin", 14, 400);
-    cut_records();
+fn main(rt: HostRuntime) -> io::Result<()> {
+    file(&rt, "lsp.bin", 0, 20)?;
+    file(&rt, "coefficient.bin", 1, 3)?;
+    file(&rt, "convert.bin", 2, 21)?;
+    file(&rt, "interpolate.bin", 3, 64)?;
+    file(&rt, "lag.bin", 4, 5)?;
+    file(&rt, "predict.bin", 5, 196)?;
+    file(&rt, "energy.bin", 6, 42)?;
+    file(&rt, "inverse_sqrt.bin", 7, 4)?;
+    file(&rt, "match_energy.bin", 8, 120)?;
+    file(&rt, "gain_control.bin", 9, 122)?;
+    file(&rt, "synthesis.bin", 10, 112)?;
+    file(&rt, "postfilter.bin", 11, 408)?;
+    file(&rt, "frame_kept.bin", 12, 784)?;
+    file(&rt, "frame_extreme.bin", 12, 784)?;
+    file(&rt, "refused.bin", 15, 385)?;
+    file(&rt, "record_read.bin", 13, 410)?;
+    file(&rt, "record_write.bin", 14, 400)?;
+    cut_records(&rt)
 }

@@ -1,60 +1,62 @@
 // The shift report: reads a handover record and then frame sheets from standard input, and writes one line of totals.
 #![tactic(auto)]
-ghost use Rattle.std.specs.Prelude.{◌≡◌, ◌+◌, ◌≤◌, length};
+
+ghost use Rattle.std.specs.Prelude.{◌≡◌, ◌+◌, ◌≤◌, length, IfOk};
 ghost use Rattle.lines.specs.Put.{line_room, Within};
 ghost use Rattle.shift_report.specs.Steps.{sheets_counted, Bounded};
 ghost use Rattle.totals.specs.Inner.{OneMore};
 
-use libc::STDOUT_FILENO;
 use lines::LINE_ROOM;
 use sheets::SHEET_BYTES;
 use shift_report::{Totals, TotalsStep};
 use state::State;
+use std::io;
+use std::io::Read;
 use totals::SHEET_LIMIT;
 
 // Reads what comes of a sheet, and takes the step on it.
-fn serve_sheet(totals: Totals, state: State) -> TotalsStep
+fn serve_sheet<R: Read>(input: &mut R, totals: Totals, state: State) -> io::Result<TotalsStep>
     requires { OneMore totals }
-    ensures bounded { Bounded result.totals }
-    ensures counted { sheets_counted result.totals ≤ sheets_counted totals + 1 }
+    ensures bounded { IfOk result (λ s. Bounded s.totals) }
+    ensures counted { IfOk result (λ s. sheets_counted s.totals ≤ sheets_counted totals + 1) }
 {
     let mut bytes = [0u8; SHEET_BYTES];
-    let n = sheets::read_sheet(&mut bytes);
-    totals::step(totals, &bytes[..n], state)
+    let n = sheets::read_sheet(input, &mut bytes)?;
+    Ok(totals::step(totals, &bytes[..n], state))
 }
 
 // What comes after so many sheets is not read.
-fn run(first: State) -> Totals {
+fn run<R: Read>(input: &mut R, first: State) -> io::Result<Totals> {
     let mut totals = totals::zeros();
     let mut state = first;
     let mut number = 0;
     while number < SHEET_LIMIT {
         number += 1;
-        let step = serve_sheet(totals, state);
+        let step = serve_sheet(input, totals, state)?;
         totals = step.totals;
         state = step.next;
         if !step.more {
             break;
         }
     }
-    totals
+    Ok(totals)
 }
 
 // Reads all, and puts the report into the lent line.
-fn read_report(line: &mut [u8]) -> usize
+fn read_report<R: Read>(input: &mut R, line: &mut [u8]) -> io::Result<usize>
     requires { length line.old ≡ line_room }
-    ensures { Within result line.new }
+    ensures { IfOk result (λ n. Within n line.new) }
 {
-    let opening = sheets::read_record(line);
+    let opening = sheets::read_record(input, line)?;
     if opening.more {
-        let state = opening.next;
-        return totals::report_line(line, run(state));
+        let totals = run(input, opening.next)?;
+        return Ok(totals::report_line(line, totals));
     }
-    opening.count
+    Ok(opening.count)
 }
 
-fn main() {
+fn main(rt: HostRuntime) -> io::Result<()> {
     let mut line = [0u8; LINE_ROOM];
-    let count = read_report(&mut line);
-    io::write_all(STDOUT_FILENO, &line[..count]);
+    let count = read_report(&mut rt.stdin(), &mut line)?;
+    rt.write_all(&line[..count])
 }

@@ -1,14 +1,17 @@
 // What a program of the bench reads: a record, then sheets one by one.
 #![tactic(auto)]
-ghost use Rattle.std.specs.Prelude.{◌≡◌, length, take};
+
+ghost use Rattle.std.specs.Prelude.{◌≡◌, ℕ, List, length, take, IfOk, OnErr};
+ghost use Rattle.std.specs.Io.{ReadsAtMost};
 ghost use Rattle.mr74.specs.Frame.{call_result};
 ghost use Rattle.lines.specs.Put.{line_room, Within};
-ghost use Rattle.io.specs.Counts.{IsPrefixLen};
-ghost use Rattle.sheets.specs.Sheets.{sheet_bytes, sheet_call, step_result, opening_step};
+ghost use Rattle.sheets.specs.Sheets.{record_bytes, sheet_bytes, sheet_call, step_result, opening_step};
+ghost use Rattle.sheets.specs.Reading.{TakesFirst};
 
-use libc::STDIN_FILENO;
 use mr74::{FrameAnswer, SAMPLES, SHEET};
 use state::State;
+use std::io;
+use std::io::Read;
 
 // The bytes of the record that the input begins with, and of each sheet.
 pub const RECORD_BYTES: usize = 402;
@@ -16,11 +19,28 @@ pub const RECORD_BYTES: usize = 402;
 pub const SHEET_BYTES: usize = 2 * SHEET;
 
 // The length of what a step prints, the state for the next sheet, and whether there is a next step.
-#[derive(Drop)]
+#[derive(Clone, Copy)]
 pub struct Step {
     pub count: usize,
     pub next: State,
     pub more: bool,
+}
+
+// ---- reading
+// Reads until the lent bytes are full or the input ends, and says how many came. Nothing beyond them is read.
+pub fn read_full<R: Read>(input: &mut R, bytes: &mut [u8]) -> io::Result<usize>
+    ensures bound { ReadsAtMost result bytes.new }
+    ensures first { IfOk result (λ n. TakesFirst (R.remaining input.old) (R.remaining input.new) (length bytes.new) (take n bytes.new)) }
+{
+    let mut done = 0;
+    while done < bytes.len() {
+        let n = input.read(&mut bytes[done..])?;
+        if n == 0 {
+            break;
+        }
+        done += n;
+    }
+    Ok(done)
 }
 
 // ---- the record
@@ -48,22 +68,26 @@ pub fn open_call(line: &mut [u8], bytes: &[u8]) -> Step
     }
 }
 
-// Reads the record from standard input, and takes the first step on it.
-pub fn read_record(line: &mut [u8]) -> Step
+// Reads the record from the input, and takes the first step on what came of it.
+pub fn read_record<R: Read>(input: &mut R, line: &mut [u8]) -> io::Result<Step>
     requires { length line.old ≡ line_room }
-    ensures { Within result.count line.new }
+    ensures within { IfOk result (λ s. Within s.count line.new) }
+    ensures step { IfOk result (λ s. (came : List ℕ) × TakesFirst (R.remaining input.old) (R.remaining input.new) record_bytes came
+        × (step_result (take s.count line.new) s.next s.more ≡ opening_step came)) }
+    ensures err { OnErr result (line.new ≡ line.old) }
 {
     let mut bytes = [0u8; RECORD_BYTES];
-    let n = io::read_full(STDIN_FILENO, &mut bytes);
-    open_call(line, &bytes[..n])
+    let n = read_full(input, &mut bytes)?;
+    Ok(open_call(line, &bytes[..n]))
 }
 
 // ---- a sheet
-// Reads a sheet from standard input, as far as it comes.
-pub fn read_sheet(bytes: &mut [u8]) -> usize
-    ensures { IsPrefixLen result bytes.new }
+// Reads a sheet from the input, as far as it comes.
+pub fn read_sheet<R: Read>(input: &mut R, bytes: &mut [u8]) -> io::Result<usize>
+    ensures bound { ReadsAtMost result bytes.new }
+    ensures first { IfOk result (λ n. TakesFirst (R.remaining input.old) (R.remaining input.new) (length bytes.new) (take n bytes.new)) }
 {
-    io::read_full(STDIN_FILENO, bytes)
+    read_full(input, bytes)
 }
 
 // What a sheet's frame call gives.

@@ -1,46 +1,38 @@
 // Runs document 01's values to hold through the code, the starred ones among them, means of peaks and shift reports, and prints each with its input.
 #![tactic(auto)]
-use libc::STDOUT_FILENO;
+
 use lines::LINE_ROOM;
 use pitch::{Fraction, PitchLag};
+use std::io;
 
-fn print_signed(x: i32) {
-    if x < 0 {
-        io::write_all(STDOUT_FILENO, b"-");
-        io::print_decimal(STDOUT_FILENO, (0 - (x as i64)) as u64);
-        return;
-    }
-    io::print_decimal(STDOUT_FILENO, x as u64);
+fn print_signed(rt: &impl Print, x: i32) -> io::Result<()> {
+    print!(rt; "{x}")
 }
 
 // name, input and answer in a line
-fn line(name: &[u8], input: i32, answer: i32) {
-    io::write_all(STDOUT_FILENO, name);
-    io::write_all(STDOUT_FILENO, b" ");
-    print_signed(input);
-    io::write_all(STDOUT_FILENO, b": ");
-    print_signed(answer);
-    io::write_all(STDOUT_FILENO, b"\n");
+fn line(rt: &impl Print, name: &str, input: i32, answer: i32) -> io::Result<()> {
+    println!(rt; "{name} {input}: {answer}")
 }
 
-fn short(name: &[u8], input: i16, answer: i16) {
-    line(name, input as i32, answer as i32);
+fn short(rt: &impl Print, name: &str, input: i16, answer: i16) -> io::Result<()> {
+    line(rt, name, input as i32, answer as i32)
 }
 
-fn frequencies() {
+fn frequencies(rt: &impl Print) -> io::Result<()> {
     let lsf = [0i16, 128, 8191, 16383, 16384, 0, 0, 0, 0, 0];
     let lsp = spectral::lsf_to_lsp(lsf);
     for i in 0..5 {
-        short(b"LSF", lsf[i], lsp[i]);
+        short(rt, "LSF", lsf[i], lsp[i])?;
     }
+    Ok(())
 }
 
 // a lag in whole samples, then its thirds
-fn lag(name: &[u8], index: u8, l: PitchLag) {
+fn lag(rt: &impl Print, name: &str, index: u8, l: PitchLag) -> io::Result<()> {
     let samples = l.samples;
     let fraction = l.fraction;
-    line(name, index as i32, samples as i32);
-    short(b"thirds", index as i16, fraction.thirds());
+    line(rt, name, index as i32, samples as i32)?;
+    short(rt, "thirds", index as i16, fraction.thirds())
 }
 
 fn after(samples: u16) -> PitchLag {
@@ -50,57 +42,59 @@ fn after(samples: u16) -> PitchLag {
     }
 }
 
-fn lags() {
-    lag(b"lag", 0, PitchLag::from_absolute(0));
-    lag(b"lag", 196, PitchLag::from_absolute(196));
-    lag(b"lag", 197, PitchLag::from_absolute(197));
-    lag(b"lag", 255, PitchLag::from_absolute(255));
+fn lags(rt: &impl Print) -> io::Result<()> {
+    lag(rt, "lag", 0, PitchLag::from_absolute(0))?;
+    lag(rt, "lag", 196, PitchLag::from_absolute(196))?;
+    lag(rt, "lag", 197, PitchLag::from_absolute(197))?;
+    lag(rt, "lag", 255, PitchLag::from_absolute(255))
 }
 
-fn relative_lags() {
+fn relative_lags(rt: &impl Print) -> io::Result<()> {
     lag(
-        b"lag after 143",
+        rt,
+        "lag after 143",
         31,
         PitchLag::from_relative(31, after(143)),
-    );
-    lag(b"lag after 19", 0, PitchLag::from_relative(0, after(19)));
+    )?;
+    lag(rt, "lag after 19", 0, PitchLag::from_relative(0, after(19)))
 }
 
-fn coefficient(value: i32) {
+fn coefficient(rt: &impl Print, value: i32) -> io::Result<()> {
     line(
-        b"coefficient",
+        rt,
+        "coefficient",
         value,
         lpc::rounded_coefficient(value) as i32,
-    );
+    )
 }
 
-fn coefficients() {
-    coefficient(4096);
-    coefficient(-4096);
-    coefficient(-4097);
-    coefficient(2147483647);
+fn coefficients(rt: &impl Print) -> io::Result<()> {
+    coefficient(rt, 4096)?;
+    coefficient(rt, -4096)?;
+    coefficient(rt, -4097)?;
+    coefficient(rt, 2147483647)
 }
 
-fn inverse_root(value: i32) {
-    line(b"inverse root", value, energy::inverse_sqrt(value));
+fn inverse_root(rt: &impl Print, value: i32) -> io::Result<()> {
+    line(rt, "inverse root", value, energy::inverse_sqrt(value))
 }
 
 // of one sample among zeros
-fn energy_of(sample: i16) {
+fn energy_of(rt: &impl Print, sample: i16) -> io::Result<()> {
     let mut samples = [0i16; 40];
     samples[0] = sample;
-    line(b"energy", sample as i32, energy::energy(samples));
+    line(rt, "energy", sample as i32, energy::energy(samples))
 }
 
-fn energies() {
-    inverse_root(1);
-    inverse_root(2);
-    energy_of(-32768);
-    energy_of(-32767);
+fn energies(rt: &impl Print) -> io::Result<()> {
+    inverse_root(rt, 1)?;
+    inverse_root(rt, 2)?;
+    energy_of(rt, -32768)?;
+    energy_of(rt, -32767)
 }
 
 // the first sample at which a step of the synthesis clamps, 40 where none does: zero history, row 4096, -4096, excitation 32767, then `second`
-fn first_clamp(second: i16) {
+fn first_clamp(rt: &impl Print, second: i16) -> io::Result<()> {
     let mut row = [0i16; 11];
     row[0] = 4096;
     row[1] = -4096;
@@ -110,41 +104,42 @@ fn first_clamp(second: i16) {
     let r = synthesis::preview(row, excitation, [0i16; 10]);
     let place = r.place;
     if place <= 40 {
-        line(b"synthesis 32767,", second as i32, place as i32);
+        line(rt, "synthesis 32767,", second as i32, place as i32)?;
     }
+    Ok(())
 }
 
 // of a frame whose other samples are 0
-fn peak_of(sample: i16) {
+fn peak_of(rt: &impl Print, sample: i16) -> io::Result<()> {
     let mut samples = [0i16; 160];
     samples[159] = sample;
-    line(b"peak", sample as i32, lines::peak(samples));
+    line(rt, "peak", sample as i32, lines::peak(samples))
 }
 
 // -32768 has no opposite among the samples: 32767 is the largest
-fn peaks() {
-    peak_of(-32768);
-    peak_of(32767);
-    peak_of(-32760);
-    peak_of(32760);
-    peak_of(-32759);
-    peak_of(32759);
-    peak_of(-1);
-    peak_of(1);
+fn peaks(rt: &impl Print) -> io::Result<()> {
+    peak_of(rt, -32768)?;
+    peak_of(rt, 32767)?;
+    peak_of(rt, -32760)?;
+    peak_of(rt, 32760)?;
+    peak_of(rt, -32759)?;
+    peak_of(rt, 32759)?;
+    peak_of(rt, -1)?;
+    peak_of(rt, 1)
 }
 
 // of a frame with one sample below zero, a smaller one above it, and 0
-fn peak_below_zero() {
+fn peak_below_zero(rt: &impl Print) -> io::Result<()> {
     let mut samples = [0i16; 160];
     samples[0] = -32760;
     samples[159] = 32759;
-    line(b"peak -32760,", 32759, lines::peak(samples));
+    line(rt, "peak -32760,", 32759, lines::peak(samples))
 }
 
 // the mark of a peak, without a retry and with one in each subframe
-fn mark(peak: i32) {
-    io::write_all(STDOUT_FILENO, b"mark ");
-    print_signed(peak);
+fn mark(rt: &impl Print, peak: i32) -> io::Result<()> {
+    print!(rt; "mark ")?;
+    print_signed(rt, peak)?;
     let marks = [
         b':',
         b' ',
@@ -155,32 +150,33 @@ fn mark(peak: i32) {
         lines::mark(peak, [false, false, false, true]),
         b'\n',
     ];
-    io::write_all(STDOUT_FILENO, &marks);
+    rt.write_all(&marks)
 }
 
-fn marks() {
-    mark(0);
-    mark(32759);
-    mark(32760);
-    mark(32767);
-    mark(32768);
+fn marks(rt: &impl Print) -> io::Result<()> {
+    mark(rt, 0)?;
+    mark(rt, 32759)?;
+    mark(rt, 32760)?;
+    mark(rt, 32767)?;
+    mark(rt, 32768)
 }
 
 // of two numbers by their sum: below zero it is rounded down too, though no sum of peaks lies there
-fn mean_of_two(sum: i32) {
-    line(b"mean of two by their sum", sum, totals::mean(sum, 2));
+fn mean_of_two(rt: &impl Print, sum: i32) -> io::Result<()> {
+    line(rt, "mean of two by their sum", sum, totals::mean(sum, 2))
 }
 
-fn means() {
-    mean_of_two(-73);
-    mean_of_two(-74);
-    mean_of_two(73);
-    mean_of_two(-1);
+fn means(rt: &impl Print) -> io::Result<()> {
+    mean_of_two(rt, -73)?;
+    mean_of_two(rt, -74)?;
+    mean_of_two(rt, 73)?;
+    mean_of_two(rt, -1)?;
     line(
-        b"mean of 65535 by their sum",
+        rt,
+        "mean of 65535 by their sum",
         2147450880,
         totals::mean(2147450880, 65535),
-    );
+    )
 }
 
 // document 01's listing: a zero record, a zero sheet, one with only LSF 9 = 16385, and a byte
@@ -207,40 +203,38 @@ fn spaced(listing: [u8; 1131]) -> [u8; 1131] {
 }
 
 // the shift report of so many bytes of a lent input, behind a name
-fn report_of(name: &[u8], input: &[u8], count: usize) {
+fn report_of(rt: &impl Print, name: &str, input: &[u8], count: usize) -> io::Result<()> {
     let mut text = [0u8; LINE_ROOM];
     if count <= input.len() {
         let end = totals::report(&mut text, &input[0..count]);
-        io::write_all(STDOUT_FILENO, name);
-        io::write_all(STDOUT_FILENO, b" ");
-        io::print_decimal(STDOUT_FILENO, count as u64);
-        io::write_all(STDOUT_FILENO, b" bytes: ");
-        io::write_all(STDOUT_FILENO, &text[..end]);
+        print!(rt; "{name} {count} bytes: ")?;
+        rt.write_all(&text[..end])?;
     }
+    Ok(())
 }
 
-fn reports() {
+fn reports(rt: &impl Print) -> io::Result<()> {
     let input = listing();
-    report_of(b"report of", &input, 0);
-    report_of(b"report of", &input, 402);
-    report_of(b"report of", &input, 766);
-    report_of(b"report of", &input, 1131);
+    report_of(rt, "report of", &input, 0)?;
+    report_of(rt, "report of", &input, 402)?;
+    report_of(rt, "report of", &input, 766)?;
+    report_of(rt, "report of", &input, 1131)?;
     let apart = spaced(input);
-    report_of(b"LSFs apart: report of", &apart, 766);
-    report_of(b"LSFs apart: report of", &apart, 1131);
+    report_of(rt, "LSFs apart: report of", &apart, 766)?;
+    report_of(rt, "LSFs apart: report of", &apart, 1131)
 }
 
-fn main() {
-    frequencies();
-    lags();
-    relative_lags();
-    coefficients();
-    energies();
-    first_clamp(0);
-    first_clamp(1);
-    peaks();
-    peak_below_zero();
-    marks();
-    means();
-    reports();
+fn main(rt: HostRuntime) -> io::Result<()> {
+    frequencies(&rt)?;
+    lags(&rt)?;
+    relative_lags(&rt)?;
+    coefficients(&rt)?;
+    energies(&rt)?;
+    first_clamp(&rt, 0)?;
+    first_clamp(&rt, 1)?;
+    peaks(&rt)?;
+    peak_below_zero(&rt)?;
+    marks(&rt)?;
+    means(&rt)?;
+    reports(&rt)
 }
