@@ -1,3 +1,5 @@
--- Opening: the first step, and the frame call of a sheet's bytes. Pieces: the sheets of an input, one by one.
+-- Opening: the first step, and the frame call of a sheet's bytes. Pieces: the sheets of an input, one by one. Taken: what came of an input that is read
+-- in turns.
 pub mod Opening
 pub mod Pieces
+pub mod Taken
