@@ -1,4 +1,4 @@
-// The frame call, the reader and the writer over bytes, exported for C and Rust (c/mr74.h).
+// The frame call, the reader and the writer over bytes; the crate capi_c exports them for C and Rust (c/mr74.h).
 #![tactic(auto)]
 
 ghost use Rattle.std.specs.Prelude.{◌≡◌, ◌<◌};
@@ -50,8 +50,7 @@ fn code(outcome: Outcome) -> u32
 
 // The frame call. Accepted: the samples in `out`, the next state in `state`; refused: both stay. Rows and places are the answer's either way.
 // Returns number + 256 * place, or 255 where state, rows or places has another length, and nothing is changed.
-#[unsafe(no_mangle)]
-pub extern "C" fn mr74_frame(
+pub fn mr74_frame(
     sheet: &[u8],
     state: &mut [u8],
     out: &mut [u8],
@@ -70,8 +69,7 @@ pub extern "C" fn mr74_frame(
 
 // ---- the reader
 // The record's reader: the state in `state`, the length of the note, which is what the record begins with, in `note`; both zero where it refuses.
-#[unsafe(no_mangle)]
-pub extern "C" fn mr74_read(bytes: &[u8], state: &mut [u8], note: &mut usize) -> u32
+pub fn mr74_read(bytes: &[u8], state: &mut [u8], note: &mut usize) -> u32
     ensures { read_return result state.new note.new ≡ read_bytes bytes.now state.old note.old }
 {
     if state.len() != STATE_BYTES {
@@ -88,8 +86,7 @@ pub extern "C" fn mr74_read(bytes: &[u8], state: &mut [u8], note: &mut usize) ->
 
 // ---- the writer
 // The record's writer: the record of `state` in `bytes`, which stay as they are where it refuses.
-#[unsafe(no_mangle)]
-pub extern "C" fn mr74_write(state: &[u8], bytes: &mut [u8]) -> u32
+pub fn mr74_write(state: &[u8], bytes: &mut [u8]) -> u32
     ensures { write_return result bytes.new ≡ write_bytes state.now bytes.old }
 {
     if state.len() != STATE_BYTES {

@@ -1,0 +1,36 @@
+// The static library: the calls of capi, exported for C and Rust (../capi/c/mr74.h).
+#![tactic(auto)]
+
+ghost use Rattle.std.specs.Prelude.{◌≡◌};
+ghost use Rattle.capi.specs.Capi.{frame_return, frame_bytes, read_return, read_bytes, write_return, write_bytes};
+
+// The frame call. Accepted: the samples in `out`, the next state in `state`; refused: both stay. Rows and places are the answer's either way.
+// Returns number + 256 * place, or 255 where state, rows or places has another length, and nothing is changed.
+#[unsafe(no_mangle)]
+pub extern "C" fn mr74_frame(
+    sheet: &[u8],
+    state: &mut [u8],
+    out: &mut [u8],
+    rows: &mut [u8],
+    places: &mut [u8],
+) -> u32
+    ensures { frame_return result state.new out.new rows.new places.new ≡ frame_bytes sheet.now state.old out.old rows.old places.old }
+{
+    capi::mr74_frame(sheet, state, out, rows, places)
+}
+
+// The record's reader: the state in `state`, the length of the note, which is what the record begins with, in `note`; both zero where it refuses.
+#[unsafe(no_mangle)]
+pub extern "C" fn mr74_read(bytes: &[u8], state: &mut [u8], note: &mut usize) -> u32
+    ensures { read_return result state.new note.new ≡ read_bytes bytes.now state.old note.old }
+{
+    capi::mr74_read(bytes, state, note)
+}
+
+// The record's writer: the record of `state` in `bytes`, which stay as they are where it refuses.
+#[unsafe(no_mangle)]
+pub extern "C" fn mr74_write(state: &[u8], bytes: &mut [u8]) -> u32
+    ensures { write_return result bytes.new ≡ write_bytes state.now bytes.old }
+{
+    capi::mr74_write(state, bytes)
+}
