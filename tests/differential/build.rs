@@ -1,4 +1,4 @@
-//! Links `target/staticlib/libcapi.a`, which `rt staticlib capi` writes.
+//! Links `target/staticlib/libcapi.a`, which `tools/staticlib` writes.
 
 use std::{env, path::Path};
 
