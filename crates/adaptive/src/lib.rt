@@ -1,5 +1,6 @@
 // The adaptive codebook: Pred_lt_3or6 of TS 26.073, in thirds.
 #![tactic(auto)]
+
 ghost use Rattle.std.specs.Prelude.{◌≡◌, true, ◌+◌, ◌<◌, ◌≤◌, pos, take};
 ghost use Rattle.pitch.specs.Lag.{lag_of};
 ghost use Rattle.adaptive.specs.Predict.{interpolated, extended, predicted};

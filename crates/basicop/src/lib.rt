@@ -1,5 +1,6 @@
 // The basic operators of TS 26.073, each equal to its definition in specs/Ops.antt, under the standard's names in lower case.
 #![tactic(auto)]
+
 ghost use Rattle.std.specs.Prelude.{◌≡◌, true, pos};
 ghost use Rattle.basicop.specs.Ops.{shl, quartered, l_mac};
 ghost use Rattle.basicop.specs.Inner.{Unclamped};

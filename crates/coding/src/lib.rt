@@ -1,6 +1,7 @@
 // Numbers of 16 bits as bytes, and the body of a record: a state's numbers as bytes, part by part.
 // Not public in document 01's sense: the record's calls, the exported ones and the programs call it, and meet its `requires`.
 #![tactic(auto)]
+
 ghost use Rattle.std.specs.Prelude.{◌≡◌, length};
 ghost use Rattle.state.specs.Layout.{core_of, core_numbers, post_of, post_numbers, state_of, numbers_of};
 ghost use Rattle.coding.specs.Bytes.{words, bytes_of};

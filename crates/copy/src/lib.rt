@@ -1,5 +1,6 @@
 // Copy of TS 26.073: a stretch of numbers over another of the same length.
 #![tactic(auto)]
+
 ghost use Rattle.std.specs.Prelude.{◌≡◌, length};
 
 // Each number of `dst` becomes that of `src`.

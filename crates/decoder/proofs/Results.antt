@@ -9,7 +9,7 @@ use lib.Dec.{ltb}
 use lib.IntN.{ℤ, pos}
 use lib.ListN.{length, drop, get_or, length-map}
 use lib.Signed.{◌≤ℤ◌, lt_z}
-use Rattle.lists.specs.Lists.{at, Every}
+use Rattle.lists.specs.Lists.{Every}
 use Rattle.lists.proofs.Entries.{length_pairwise, every_append, every_map, every_at}
 use Rattle.basicop.specs.Ops.{sub, shl, quartered}
 use Rattle.basicop.specs.Divided.{Divided, Divides}

@@ -11,7 +11,6 @@ use mir.Val.{SFits}
 use Rattle.lists.specs.Lists.{at}
 use Rattle.lists.proofs.Entries.{each_append, each_drop}
 use Rattle.basicop.specs.Ops.{quartered}
-use Rattle.synthesis.specs.Synthesis.{samples}
 use Rattle.synthesis.specs.Whole.{retried, retried_at}
 use Rattle.synthesis.proofs.Agree.{agree}
 use Rattle.excitation.proofs.Ranges.{quarter_range}

@@ -7,7 +7,7 @@ use borrow.Author.Tests.{lt-ltb, le-ltb}
 use lib.IntN.{ℤ}
 use lib.ListN.{length}
 use Rattle.basicop.specs.Ops.{quartered}
-use Rattle.synthesis.specs.Synthesis.{samples, overflowed, overflowed_at, previewed, filtered}
+use Rattle.synthesis.specs.Synthesis.{overflowed, overflowed_at, previewed, filtered}
 use Rattle.synthesis.proofs.Samples.{overflowed_by_at, previewed_all}
 use Rattle.excitation.specs.Excitation.{taking}
 use Rattle.decoder.specs.declared.SynthesisOutput.{SynthesisOutput}

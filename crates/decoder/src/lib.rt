@@ -1,5 +1,6 @@
 // The core of a frame: everything up to the synthesis samples.
 #![tactic(auto)]
+
 mod enhancement;
 mod frame;
 mod subframe;

@@ -1,5 +1,6 @@
 // Energies and the gains between them: energy_new, Inv_sqrt, agc2 and agc of TS 26.073.
 #![tactic(auto)]
+
 mod control;
 mod gain;
 mod root;

@@ -1,5 +1,6 @@
 // The excitation of a subframe: sharpening, feedback and the past.
 #![tactic(auto)]
+
 ghost use Rattle.std.specs.Prelude.{◌≡◌, ◌≤◌, pos};
 ghost use Rattle.basicop.specs.Ops.{add, mult};
 ghost use Rattle.excitation.specs.Excitation.{sharpened, sharpening, feedback_at, feedback, taking};

@@ -1,5 +1,6 @@
 // The four coefficient rows of a frame: Int_lpc_1to3, Lsp_Az and Get_lsp_pol of TS 26.073.
 #![tactic(auto)]
+
 ghost use Rattle.std.specs.Prelude.{◌≡◌, ◌+◌, ◌-◌, ◌<◌, ◌≤◌, take};
 ghost use Rattle.lists.specs.Lists.{pairwise};
 ghost use Rattle.lpc.specs.Rows.{blend, blend1, blend2, raised_from, raised, polynomial, every_second, coefficient, row, row_of, rows_of};

@@ -1,5 +1,6 @@
 // Refusals: what turns a call back, with its number and its place.
 #![tactic(auto)]
+
 ghost use Rattle.std.specs.Prelude.{◌≡◌, pos, length};
 ghost use Rattle.outcome.specs.Outcome.{number_of, place_of, is_accepted};
 ghost use Rattle.outcome.specs.Checks.{first_outside, first_close};

@@ -1,5 +1,6 @@
 // Lags from pitch indices: Dec_lag3 of TS 26.073.
 #![tactic(auto)]
+
 ghost use Rattle.std.specs.Prelude.{◌≡◌, pos};
 ghost use Rattle.pitch.specs.Lag.{absolute, relative, lag_min, thirds_of, lag_of};
 

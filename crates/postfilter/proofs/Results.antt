@@ -23,7 +23,6 @@ use Rattle.basicop.proofs.Words.{zero_fits, words_append, words_drop, words_take
 use Rattle.lpc.specs.declared.Rows.{Rows}
 use Rattle.lpc.specs.Rows.{rows_of}
 use Rattle.lpc.proofs.Coefficients.{rows_are}
-use Rattle.synthesis.specs.Synthesis.{samples}
 use Rattle.synthesis.proofs.Samples.{length_samples, samples_fit, newest_words}
 use Rattle.energy.specs.Gain.{agc}
 use Rattle.energy.proofs.Gains.{Gain}

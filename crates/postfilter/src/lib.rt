@@ -1,5 +1,6 @@
 // The postfilter: Post_Filter of TS 26.073, with Weight_Ai, Residu and preemphasis.
 #![tactic(auto)]
+
 ghost use Rattle.std.specs.Prelude.{◌≡◌, ◌++◌};
 ghost use Rattle.lists.specs.Lists.{at};
 ghost use Rattle.postfilter.specs.Residual.{residual};

@@ -1,5 +1,6 @@
 // Line spectral frequencies to their cosines: Lsf_lsp of TS 26.073.
 #![tactic(auto)]
+
 ghost use Rattle.std.specs.Prelude.{◌≡◌, pos, ◌≤ℤ◌};
 ghost use Rattle.spectral.specs.Lsp.{cosine, between, lsp_of, lsps_of, Frequencies};
 

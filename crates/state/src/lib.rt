@@ -1,5 +1,6 @@
 // The state that is carried between frames, and what turns it back.
 #![tactic(auto)]
+
 ghost use Rattle.std.specs.Prelude.{◌≡◌};
 ghost use Rattle.outcome.specs.Checks.{first_met};
 ghost use Rattle.state.specs.State.{state_checks};

@@ -1,5 +1,6 @@
 // The synthesis filter: Syn_filt of TS 26.073. A first pass in whole numbers, which ends where one leaves 32 bits, and the pass by clamped steps.
 #![tactic(auto)]
+
 mod buffer;
 mod clamped;
 mod weighing;

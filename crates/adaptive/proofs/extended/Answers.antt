@@ -1,19 +1,18 @@
 -- `adaptive::extended` meets its contract: n samples are made, and `plain` is the test of all that stands.
 use mathlib.Core.Path.{refl, sym, ap, ◌∙◌}
-use Prim.Native.Nat.{◌+◌, ◌-◌, ◌*◌, ◌<◌, ◌≤◌}
+use Prim.Native.Nat.{◌+◌, ◌*◌, ◌<◌, ◌≤◌}
 use borrow.Author.Rules.{rules}
 use native.Mathlib.Omega.{arith}
 use lib.IntN.{pos, ◌-ℤ◌}
-use lib.ListN.{take}
 use mir.Syntax.{w16}
 use Rattle.lists.proofs.Signed.{got}
-use Rattle.lists.proofs.Grow.{Grown, grown_none, grown_more, grown_done}
-use Rattle.adaptive.specs.Predict.{coefficient, sample_at, extended}
+use Rattle.lists.proofs.Grow.{grown_none, grown_more, grown_done}
+use Rattle.adaptive.specs.Predict.{coefficient, extended}
 use Rattle.adaptive.specs.Inner.{left_of, right_of, quiet}
 use Rattle.adaptive.proofs.Places.{phase_range, start_range}
 use Rattle.adaptive.proofs.Taps.{Row, lag_row}
 use Rattle.adaptive.proofs.Samples.{sample_same}
-use Rattle.adaptive.proofs.Tested.{Tested, tested_yes, tested_more}
+use Rattle.adaptive.proofs.Tested.{tested_yes, tested_more}
 use Rattle.adaptive.proofs.extended.Goals as goal
 use Rattle.adaptive.proofs.extended.Goals.{After-phase_of-phase, After-start_of-start}
 
@@ -73,6 +72,4 @@ loop-n-preserved c =
 pub returns : goal.returns
 unfolding extended
 returns c =
-    let o = c.before.before.before in
-    let s = o.before in
     grown_done c.loop-n.invariant.1.0 40 (search rules) refl ∙ rw (c.opened-buffer.ensures, c.start_of-start.ensures, c.phase_of-phase.ensures)

@@ -1,12 +1,8 @@
 -- `adaptive::quiet` meets its contract: a fold of the tests of the numbers.
-use mathlib.Core.Path.{refl, ap, ◌∙◌}
 use mathlib.Core.Bool.{Bool, not, ◌&&◌}
 use Prim.Native.Nat.{◌≤◌, ◌-◌}
-use borrow.Author.Rules.{rules}
 use lib.IntN.{ℤ}
-use mir.Syntax.{w16}
-use Rattle.lists.proofs.Signed.{back}
-use Rattle.lists.proofs.Fold.{Folding, fold_none, fold_more, fold_done}
+use Rattle.lists.proofs.Fold.{Folding}
 use Rattle.adaptive.specs.Inner.{large, quiet}
 use Rattle.adaptive.proofs.quiet.Given as goal
 

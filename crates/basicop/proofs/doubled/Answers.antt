@@ -1,5 +1,5 @@
 -- `doubled` meets its contract: the call is the definition's.
-use Rattle.basicop.proofs.Calls.{rules_ℤ, callsℤ}
+use Rattle.basicop.proofs.Calls.{callsℤ}
 use Rattle.basicop.proofs.doubled.Goals as goal
 
 pub returns : goal.returns

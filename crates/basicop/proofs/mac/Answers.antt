@@ -1,6 +1,5 @@
 -- `basicop::mac` meets its contract: a plain product and sum are those of L_mac where no step of it clamps.
 use mathlib.Core.Path.{◌∙◌}
-use borrow.Author.Rules.{rules}
 use mir.Syntax.{w32}
 use mir.Facts.{to_z-of_z}
 use Rattle.lists.proofs.Signed.{got}
@@ -23,12 +22,10 @@ overflow_mul-result-then-plain c =
 
 pub overflow_add-result : goal.overflow_add-result
 overflow_add-result c =
-    let s = c.before in
     rw (to_z-of_z (overflow_mul-result-then-plain c), to_z-of_z (overflow_mul-result c), to_z-of_z (overflow_cast-result c), to_z-of_z (overflow_cast-result-then-plain c), to_z-of_z c.ranges.s, to_z-of_z c.ranges.a, to_z-of_z c.ranges.b) (c.requires c.if-plain.true).sum
 
 pub returns-then-plain : goal.returns-then-plain
 returns-then-plain c =
-    let s = c.before in
     rw (to_z-of_z (overflow_add-result c), to_z-of_z (overflow_mul-result-then-plain c), to_z-of_z (overflow_mul-result c), to_z-of_z (overflow_cast-result c), to_z-of_z (overflow_cast-result-then-plain c), to_z-of_z c.ranges.s, to_z-of_z c.ranges.a, to_z-of_z c.ranges.b) (unclamped_is (c.requires c.if-plain.true))
 
 pub returns : goal.returns

@@ -1,14 +1,10 @@
 -- `basicop::quarter` meets its contract: what is quartered, and what is left, quartered, is all, quartered.
-use Prim.Native.Nat.{◌-◌}
 use mathlib.Core.Path.{ap, ◌∙◌}
 use borrow.Author.Rules.{rules}
-use lib.IntN.{ℤ, pos}
-use lib.ListN.{length}
 use mir.Syntax.{w16}
 use Rattle.lists.specs.Lists.{at}
 use Rattle.lists.proofs.Signed.{back, got}
-use Rattle.lists.proofs.Map.{Mapping, map_none, map_more, map_done}
-use Rattle.basicop.specs.Ops.{shr}
+use Rattle.lists.proofs.Map.{map_none, map_more, map_done}
 use Rattle.basicop.proofs.quarter.Invariants.{down}
 use Rattle.basicop.proofs.quarter.Goals as goal
 

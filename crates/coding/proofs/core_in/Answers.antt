@@ -1,5 +1,4 @@
 -- `coding::core_in`: each part is read from its stretch, and the parts are those that the numbers are cut into.
-use borrow.Author.Rules.{rules}
 use mathlib.Core.Path.{ap, ◌∙◌}
 use mathlib.Core.List.{List}
 use lib.IntN.{ℤ}
@@ -13,9 +12,6 @@ use Rattle.coding.proofs.core_in.Goals as goal
 pub returns : goal.returns
 unfolding core_of
 returns c =
-    let h = c.before in
-    let n = h.before.before in
-    let p = n.before.before in
     (λ i. record {
       lsp = c.ten_in-lsp.ensures i;
       past = c.past_in-past.ensures i;

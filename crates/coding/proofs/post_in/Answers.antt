@@ -1,5 +1,4 @@
 -- `coding::post_in`: each part is read from its stretch, and the parts are those that the numbers are cut into.
-use borrow.Author.Rules.{rules}
 use mathlib.Core.Path.{ap, ◌∙◌}
 use mathlib.Core.List.{List}
 use lib.IntN.{ℤ}
@@ -13,9 +12,6 @@ use Rattle.coding.proofs.post_in.Goals as goal
 pub returns : goal.returns
 unfolding post_of
 returns c =
-    let g = c.before.before in
-    let r = g.before.before in
-    let y = r.before.before in
     (λ i. record {
       input_history = c.ten_in-input_history.ensures i;
       synthesis_history = c.ten_in-synthesis_history.ensures i;

@@ -1,5 +1,4 @@
 -- `coding::state_in`: core and postfilter are read each from its stretch.
-use borrow.Author.Rules.{rules}
 use mathlib.Core.Path.{ap, ◌∙◌}
 use Rattle.state.specs.Layout.{counts, state_parts, state_from, state_of}
 use Rattle.coding.proofs.Words.{words_cut}

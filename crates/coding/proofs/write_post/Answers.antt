@@ -1,8 +1,6 @@
 -- `coding::write_post`: the bytes of each part, laid one after another.
-use Prim.Native.Nat.{◌<◌, ◌^◌}
 use borrow.Author.Rules.{rules}
 use mathlib.Core.List.{[], ◌∷◌}
-use lib.Signed.{mag}
 use Rattle.state.specs.Layout.{counts, parts_in, post_parts, post_numbers}
 use Rattle.coding.proofs.Bytes.{one_put}
 use Rattle.coding.proofs.Words.{doubled}

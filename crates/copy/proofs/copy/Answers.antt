@@ -1,11 +1,9 @@
 -- `copy::copy` meets its contract: after i turns the first i numbers are those of the source.
-use Prim.Native.Nat.{◌≤◌, ◌-◌}
 use borrow.Author.Rules.{rules}
-use lib.ListN.{length}
 use mir.Syntax.{w16}
 use Rattle.lists.specs.Lists.{at}
 use Rattle.lists.proofs.Signed.{back}
-use Rattle.lists.proofs.Fill.{Filled, fill_none, fill_more, fill_whole}
+use Rattle.lists.proofs.Fill.{fill_none, fill_more, fill_whole}
 use Rattle.copy.proofs.copy.Goals as goal
 
 pub loop-i-init : goal.loop-i-init

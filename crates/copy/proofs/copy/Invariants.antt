@@ -1,11 +1,7 @@
 -- `copy::copy` meets its contract: after i turns the first i numbers are those of the source.
 use Prim.Native.Nat.{◌≤◌, ◌-◌}
-use borrow.Author.Rules.{rules}
 use lib.ListN.{length}
-use mir.Syntax.{w16}
-use Rattle.lists.specs.Lists.{at}
-use Rattle.lists.proofs.Signed.{back}
-use Rattle.lists.proofs.Fill.{Filled, fill_none, fill_more, fill_whole}
+use Rattle.lists.proofs.Fill.{Filled}
 use Rattle.copy.proofs.copy.Given as goal
 
 abbrev pub invariant-loop-i : goal.invariant-loop-i

@@ -7,7 +7,7 @@ use lib.Dec.{lit<, lit≤}
 use lib.Pow.{shr_mono}
 use lib.IntN.{ℤ, pos, negsuc}
 use lib.Signed.{◌≤ℤ◌}
-use Rattle.lists.specs.Lists.{at, iter}
+use Rattle.lists.specs.Lists.{iter}
 use Rattle.basicop.specs.Ops.{clamp, sub}
 use Rattle.basicop.proofs.Ints.{arith_ℤ, le_in, ≤ℤ_trans}
 use Rattle.basicop.proofs.Naturals.{add_pos, mult_pos}

@@ -1,5 +1,4 @@
 -- `excitation::fed_back` meets its contract: the calls are the definition's.
-use borrow.Author.Rules.{rules}
 use Rattle.basicop.proofs.Calls.{callsℤ}
 use Rattle.excitation.proofs.fed_back.Goals as goal
 

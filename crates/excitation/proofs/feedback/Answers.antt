@@ -1,13 +1,12 @@
 -- `excitation::feedback` meets its contract: each sample is the prediction's and the innovation's by their gains.
 use mathlib.Core.Path.{◌≡◌, sym, ◌∙◌}
-use Prim.Native.Nat.{◌≤◌, ◌-◌}
 use borrow.Author.Rules.{rules}
 use lib.ListN.{length}
 use mir.Syntax.{w16}
 use Rattle.lists.specs.Lists.{at}
 use Rattle.lists.proofs.Signed.{back, got}
 use Rattle.lists.proofs.Entries.{length_pairwise, at_pairwise}
-use Rattle.lists.proofs.Fill.{Filled, fill_none, fill_more, fill_whole}
+use Rattle.lists.proofs.Fill.{fill_none, fill_more, fill_whole}
 use Rattle.excitation.specs.Excitation.{feedback_at, feedback}
 use Rattle.excitation.proofs.feedback.Goals as goal
 
@@ -21,7 +20,6 @@ loop-i-init c =
 pub loop-i-preserved : goal.loop-i-preserved
 unfolding feedback
 loop-i-preserved c =
-    let l = c.before.before.before.before in
     let v = back w16 {z = at c.args.adaptive c.loop-i.i} c.fed_back-arg-1.given in
     let x = back w16 {z = at c.args.innovation.0 c.loop-i.i} c.fed_back-arg-in-loop-i-1.given in (
       search rules,

@@ -1,14 +1,7 @@
 -- `excitation::feedback` meets its contract: each sample is the prediction's and the innovation's by their gains.
-use mathlib.Core.Path.{◌≡◌, sym, ◌∙◌}
 use Prim.Native.Nat.{◌≤◌, ◌-◌}
-use borrow.Author.Rules.{rules}
-use lib.ListN.{length}
-use mir.Syntax.{w16}
-use Rattle.lists.specs.Lists.{at}
-use Rattle.lists.proofs.Signed.{back, got}
-use Rattle.lists.proofs.Entries.{length_pairwise, at_pairwise}
-use Rattle.lists.proofs.Fill.{Filled, fill_none, fill_more, fill_whole}
-use Rattle.excitation.specs.Excitation.{feedback_at, feedback}
+use Rattle.lists.proofs.Fill.{Filled}
+use Rattle.excitation.specs.Excitation.{feedback}
 use Rattle.excitation.proofs.feedback.Given as goal
 
 abbrev pub invariant-loop-i : goal.invariant-loop-i

@@ -1,5 +1,4 @@
 -- `excitation::sharper` meets its contract: the calls are the definition's.
-use borrow.Author.Rules.{rules}
 use Rattle.basicop.proofs.Calls.{callsℤ}
 use Rattle.excitation.proofs.sharper.Goals as goal
 

@@ -5,7 +5,6 @@ use lib.IntN.{ℤ}
 use mir.Syntax.{w16}
 use mir.Facts.{to_z-of_z}
 use Rattle.lists.proofs.Signed.{got}
-use Rattle.basicop.proofs.Calls.{rules_ℤ}
 use Rattle.lpc.specs.Rows.{blend, blend2}
 use Rattle.lpc.proofs.blended.Goals as goal
 

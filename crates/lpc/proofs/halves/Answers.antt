@@ -1,5 +1,5 @@
 -- `halves` meets its contract: the calls are the definition's.
-use Rattle.basicop.proofs.Calls.{rules_ℤ, callsℤ}
+use Rattle.basicop.proofs.Calls.{callsℤ}
 use Rattle.lpc.proofs.halves.Goals as goal
 
 pub returns : goal.returns

@@ -1,5 +1,4 @@
 -- `lpc::interpolate` meets its contract: the calls are the definition's, for three blends and the new LSPs.
-use borrow.Author.Rules.{rules}
 use Rattle.lpc.specs.Rows.{rows_of}
 use Rattle.lpc.proofs.interpolate.Goals as goal
 

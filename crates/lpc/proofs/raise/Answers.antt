@@ -1,5 +1,5 @@
 -- `raise` meets its contract: coefficients 0 and 1 first, then its loop fills the rest.
-use Prim.Native.Nat.{◌+◌, ◌-◌, ◌≤◌}
+use Prim.Native.Nat.{◌+◌, ◌-◌}
 use borrow.Author.Rules.{rules}
 use mathlib.Core.Path.{◌∙◌}
 use lib.ListN.{set}
@@ -9,8 +9,8 @@ use mir.Facts.{to_z-of_z}
 use Rattle.lists.specs.Lists.{at}
 use Rattle.lists.proofs.Signed.{back, got}
 use Rattle.lists.proofs.Entries.{length_tab}
-use Rattle.lists.proofs.Fill.{Filled, fill_none, fill_keep, fill_more, fill_done}
-use Rattle.lpc.proofs.Polynomials.{step, step_zero, step_one, step_more, step_is}
+use Rattle.lists.proofs.Fill.{fill_none, fill_keep, fill_more, fill_done}
+use Rattle.lpc.proofs.Polynomials.{step_zero, step_one, step_more, step_is}
 use Rattle.lpc.proofs.raise.Goals as goal
 
 pub loop-j-init : goal.loop-j-init

@@ -3,13 +3,10 @@ use borrow.Author.Rules.{rules}
 use mir.Syntax.{w16, w32}
 use mir.Facts.{to_z-of_z}
 use Rattle.lists.proofs.Signed.{back, got}
-use Rattle.basicop.proofs.Calls.{rules_ℤ}
 use Rattle.lpc.proofs.raised_from.Goals as goal
 
 pub returns : goal.returns
 returns c =
-    let m = c.before.before in
-    let x = m.before.before in
     rw (
       got w32 c.l_add.type_inv c.l_add.ensures,
       got w32 c.l_shl.type_inv c.l_shl.ensures,

@@ -1,14 +1,14 @@
 -- `row` meets its contract: after k turns coefficients 0 to k and the last k are those of the row.
-use Prim.Native.Nat.{◌+◌, ◌-◌, ◌≤◌}
+use Prim.Native.Nat.{◌+◌, ◌-◌}
 use borrow.Author.Rules.{rules}
 use mathlib.Core.Path.{◌≡◌, refl, ap, ap₂, ◌∙◌}
 use mir.Syntax.{w16, w32}
 use Rattle.lists.proofs.Signed.{back, got}
 use Rattle.lists.proofs.Fill.{fill_none, fill_keep}
 use Rattle.basicop.specs.Ops.{l_add, l_sub}
-use Rattle.lpc.specs.Rows.{coefficient, row}
+use Rattle.lpc.specs.Rows.{coefficient}
 use Rattle.lpc.proofs.Coefficients.{length_row, row_front, row_back}
-use Rattle.lists.proofs.Ends.{Ends, ends_none, ends_front, ends_back, ends_done}
+use Rattle.lists.proofs.Ends.{ends_none, ends_front, ends_back, ends_done}
 use Rattle.lpc.proofs.row.Goals as goal
 
 pub loop-k-init : goal.loop-k-init
@@ -16,8 +16,6 @@ loop-k-init c = (search rules, ends_none (fill_keep (fill_none (length_row c.arg
 
 pub loop-k-preserved : goal.loop-k-preserved
 loop-k-preserved c =
-    let n = c.before.before.before.before in
-    let m = n.before.before.before in
     let a = c.args in
     let k = c.loop-k.k in
     let es = got w32 c.l_add-s.type_inv (c.l_add-s.ensures ∙ ap₂ l_add (back w32 c.l_add-arg-1.given) (back w32 c.l_add-arg-in-loop-k-1.given)) in

@@ -1,14 +1,7 @@
 -- `row` meets its contract: after k turns coefficients 0 to k and the last k are those of the row.
 use Prim.Native.Nat.{◌+◌, ◌-◌, ◌≤◌}
-use borrow.Author.Rules.{rules}
-use mathlib.Core.Path.{◌≡◌, refl, ap, ap₂, ◌∙◌}
-use mir.Syntax.{w16, w32}
-use Rattle.lists.proofs.Signed.{back, got}
-use Rattle.lists.proofs.Fill.{fill_none, fill_keep}
-use Rattle.basicop.specs.Ops.{l_add, l_sub}
-use Rattle.lpc.specs.Rows.{coefficient, row}
-use Rattle.lpc.proofs.Coefficients.{length_row, row_front, row_back}
-use Rattle.lists.proofs.Ends.{Ends, ends_none, ends_front, ends_back, ends_done}
+use Rattle.lpc.specs.Rows.{row}
+use Rattle.lists.proofs.Ends.{Ends}
 use Rattle.lpc.proofs.row.Given as goal
 
 abbrev pub invariant-loop-k : goal.invariant-loop-k

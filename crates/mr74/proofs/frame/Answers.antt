@@ -27,15 +27,11 @@ copy-requires c = omega (arith, (shown c.before.before.before.before).lent, made
 
 pub returns-then-accepted : goal.returns-then-accepted
 returns-then-accepted c =
-    let k = c.before.before.before.before in
-    let d = k.before.before.before.before in
-    let t = d.before in
     let a = c.args in
     answer_accepted a.sheet.now a.state a.out.now c.check_frame-outcome.ensures (sym c.accepted.ensures ∙ c.if-accepted.true) c.decode_sheet-decoded.ensures c.copy.ensures
 
 pub returns : goal.returns
 returns c =
-    let t = c.before in
     let a = c.args in
     answer_refused a.sheet.now a.state a.out.now c.check_frame-outcome.ensures (sym c.accepted.ensures ∙ c.if-accepted.false) c.refused.ensures
 

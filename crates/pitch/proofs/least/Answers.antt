@@ -1,7 +1,6 @@
 -- `pitch::least` meets its contract: below 140 the least lag is five less and at least 20, from 140 on it is 134.
 use mathlib.Core.Path.{◌≡◌, sym, ap, ◌∙◌}
 use Prim.Native.Nat.{ℕ, max, ◌-◌, ◌<◌}
-use borrow.Author.Rules.{rules}
 use native.Mathlib.Omega.{arith}
 use lib.IntN.{pos}
 use Rattle.pitch.specs.Lag.{lag_min}

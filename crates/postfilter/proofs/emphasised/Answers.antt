@@ -1,5 +1,4 @@
 -- `postfilter::emphasised` meets its contract: the calls are the definition's.
-use borrow.Author.Rules.{rules}
 use Rattle.basicop.proofs.Calls.{callsℤ}
 use Rattle.postfilter.proofs.emphasised.Goals as goal
 

@@ -1,6 +1,5 @@
 -- `postfilter::excitation` meets its contract: preemphasis of the residual, whose last is kept.
 use mathlib.Core.Path.{◌∙◌}
-use borrow.Author.Rules.{rules}
 use mir.Syntax.{w16}
 use mir.Facts.{to_z-of_z}
 use Rattle.lists.specs.Lists.{at}
@@ -9,6 +8,4 @@ use Rattle.postfilter.proofs.excitation.Goals as goal
 
 pub returns : goal.returns
 returns c =
-    let p = c.before in
-    let r = p.before in
     (rw (to_z-of_z c.ranges.carried, c.residual-whitened.ensures) at c.preemphasis-out.ensures, back w16 {z = at c.residual-whitened.result 39} c.result-1.given ∙ rw c.residual-whitened.ensures)

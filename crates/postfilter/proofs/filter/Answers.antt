@@ -1,10 +1,7 @@
 -- `postfilter::filter` meets its contract: the subframe by its steps.
 use mathlib.Core.Path.{◌∙◌}
 use borrow.Author.Rules.{rules}
-use Prim.Native.Nat.{◌<◌, ◌^◌}
-use lib.Signed.{mag}
 use mir.Syntax.{w16}
-use mir.Val.{hbits}
 use Rattle.lists.proofs.Signed.{back}
 use Rattle.postfilter.specs.Weight.{numerator, denominator}
 use Rattle.postfilter.proofs.Subframes.{filtered_by}

@@ -1,16 +1,12 @@
 -- `postfilter::preemphasis` meets its contract: the first i are emphasised, and `previous` is the residual before the next.
-use mathlib.Core.Path.{◌≡◌, refl, ◌∙◌}
-use mathlib.Core.List.{◌∷◌}
-use Prim.Native.Nat.{◌≤◌, ◌-◌}
+use mathlib.Core.Path.{refl, ◌∙◌}
 use native.Mathlib.Numerals.{add-one}
 use borrow.Author.Rules.{rules}
 use mir.Syntax.{w16}
-use mir.Val.{to_z}
 use mir.Facts.{to_z-of_z}
 use Rattle.lists.specs.Lists.{at}
 use Rattle.lists.proofs.Signed.{back, got}
-use Rattle.lists.proofs.Fill.{Filled, fill_none, fill_more, fill_whole}
-use Rattle.postfilter.specs.Preemphasis.{emphasised, preemphasised}
+use Rattle.lists.proofs.Fill.{fill_none, fill_more, fill_whole}
 use Rattle.postfilter.proofs.Preemphases.{preemphasised_length, preemphasised_at}
 use Rattle.postfilter.proofs.preemphasis.Goals as goal
 
@@ -19,7 +15,6 @@ loop-i-init c = (search rules, (fill_none (preemphasised_length _ _ c.args.resid
 
 pub loop-i-preserved : goal.loop-i-preserved
 loop-i-preserved c =
-    let m = c.before in
     let x = c.args.residual in
     let i = c.loop-i.i in
     let v = back w16 {z = at x i} c.emphasised-arg-1.given in (

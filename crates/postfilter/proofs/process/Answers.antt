@@ -1,11 +1,11 @@
 -- `postfilter::process` meets its contract: after k subframes the frame's first samples and the memory are those of k steps.
 use mathlib.Core.Path.{◌≡◌}
-use Prim.Native.Nat.{◌≤◌, ◌+◌, ◌-◌, ◌*◌}
+use Prim.Native.Nat.{◌+◌, ◌-◌, ◌*◌}
 use native.Mathlib.Omega.{arith}
 use borrow.Author.Rules.{rules}
 use lib.ListN.{length}
 use Rattle.lists.proofs.Entries.{stretch_length}
-use Rattle.postfilter.proofs.Frames.{Framing, framing_none, framing_more, framing_done}
+use Rattle.postfilter.proofs.Frames.{framing_none, framing_more, framing_done}
 use Rattle.postfilter.proofs.process.Goals as goal
 use Rattle.postfilter.proofs.process.Goals.{After-filter-filtered}
 
@@ -24,10 +24,6 @@ copy-requires-in-loop-k c =
 
 pub loop-k-preserved : goal.loop-k-preserved
 loop-k-preserved c =
-    let p = c.before.before in
-    let f = p.before.before.before.before in
-    let x = f.before.before in
-    let w = x.before.before.before.before in
     (search rules, framing_more c.loop-k.invariant.1 (search rules) c.row_of-row.ensures c.copy.ensures c.filter-filtered.ensures (search rules) c.copy-in-loop-k.ensures)
 
 pub returns : goal.returns

@@ -1,5 +1,4 @@
 -- `postfilter::row_of` meets its contract: its cases are the definition's; a subframe that is not 0, 1 or 2 has the last row.
-use borrow.Author.Rules.{rules}
 use Rattle.postfilter.proofs.Frames.{row_fourth}
 use Rattle.postfilter.proofs.row_of.Goals as goal
 

@@ -7,7 +7,5 @@ use Rattle.record.proofs.write_record.Goals as goal
 
 pub returns : goal.returns
 returns c =
-    let p₂ = c.before.before in
-    let p₁ = p₂.before.before.before.before in
     let k₁ : length c.write_body.new.out ≡ 394 = search rules in
     record_written c.args.state c.args.out.now c.write_body.new.out c.write_trailer.new.out c.requires k₁ c.write_body.ensures c.write_trailer.ensures

@@ -1,5 +1,4 @@
 -- `write_trailer` meets its contract: the tag's two bytes are set, and the bytes of the three fields fill the six after them.
-use borrow.Author.Rules.{rules}
 use native.Mathlib.Omega.{arith}
 use mathlib.Core.Path.{ap, sym, ◌∙◌}
 use lib.ListN.{length, length-set}
@@ -8,12 +7,10 @@ use Rattle.record.proofs.write_trailer.Goals as goal
 
 pub shape_of-out : goal.shape_of-out
 shape_of-out c =
-    let p = c.before.before in
     ap length (trailer_written c.args.out.now c.put.new.dst c.requires c.put.ensures) ∙ trailer_length ∙ sym c.requires
 
 pub returns : goal.returns
 returns c =
-    let p = c.before.before in
     trailer_written c.args.out.now c.put.new.dst c.requires c.put.ensures
 
 pub slice_bounds-put-end : goal.slice_bounds-put-end

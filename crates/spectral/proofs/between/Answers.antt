@@ -1,5 +1,4 @@
 -- `spectral::between` meets its contract: the calls are the definition's.
-use borrow.Author.Rules.{rules}
 use Rattle.basicop.proofs.Calls.{callsℤ}
 use Rattle.spectral.specs.Lsp.{between}
 use Rattle.spectral.proofs.between.Goals as goal

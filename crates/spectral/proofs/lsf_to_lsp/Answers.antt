@@ -1,6 +1,5 @@
 -- `spectral::lsf_to_lsp` meets its contract: its table is the definition's, and `cosines_of` gives the LSPs by it.
 use mathlib.Core.Path.{refl}
-use borrow.Author.Rules.{rules}
 use Rattle.spectral.specs.Lsp.{cosine}
 use Rattle.spectral.proofs.lsf_to_lsp.Goals as goal
 

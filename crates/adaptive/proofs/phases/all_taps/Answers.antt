@@ -20,5 +20,4 @@ with_phase-requires c = (refl, lit≤ tt)
 
 pub returns : goal.returns
 returns c =
-    let b = c.before.before in
     rows_done c.with_phase-zero.result c.with_phase-two.result c.with_phase.result c.with_phase-zero.ensures c.with_phase-two.ensures c.with_phase.ensures (search rules)

@@ -1,5 +1,4 @@
 -- `adaptive::phase_of` meets its contract: fraction by fraction, the constant is the phase.
-use borrow.Author.Rules.{rules}
 use Rattle.pitch.specs.declared.Fraction.TheVariants.{MinusThird, Zero, PlusThird}
 use Rattle.adaptive.proofs.Places.{phase_by}
 use Rattle.adaptive.proofs.phases.phase_of.Goals as goal

@@ -1,12 +1,7 @@
 -- `adaptive::phase_taps` meets its contract: the first j taps are those of the phase.
-use mathlib.Core.Path.{◌∙◌}
 use Prim.Native.Nat.{◌≤◌, ◌-◌}
-use borrow.Author.Rules.{rules}
-use mir.Syntax.{w16}
-use Rattle.lists.proofs.Entries.{length_tab, at_tab}
-use Rattle.lists.proofs.Signed.{got}
-use Rattle.lists.proofs.Fill.{Filled, fill_none, fill_more, fill_whole}
-use Rattle.adaptive.specs.Inner.{tap, phase_taps}
+use Rattle.lists.proofs.Fill.{Filled}
+use Rattle.adaptive.specs.Inner.{phase_taps}
 use Rattle.adaptive.proofs.phases.phase_taps.Given as goal
 
 abbrev pub invariant-loop-j : goal.invariant-loop-j

@@ -1,5 +1,4 @@
 -- `adaptive::start_of` meets its contract: fraction by fraction, 154 less the lag, and one less for a third more.
-use borrow.Author.Rules.{rules}
 use Rattle.pitch.specs.declared.Fraction.TheVariants.{MinusThird, Zero, PlusThird}
 use Rattle.adaptive.proofs.Places.{start_by}
 use Rattle.adaptive.proofs.phases.start_of.Goals as goal

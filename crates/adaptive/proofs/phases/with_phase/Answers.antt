@@ -10,7 +10,6 @@ use Rattle.adaptive.proofs.phases.with_phase.Goals as goal
 
 pub returns : goal.returns
 returns c =
-    let k = c.before in
     let a = c.args in
     let n = 10 * a.phase in
     let e : n + 20 - n ≡ 20 = omega arith in

@@ -8,7 +8,6 @@ use mir.Val.{to_z, of_z}
 use mir.Facts.{to_z-of_z}
 use Rattle.lists.proofs.Signed.{got}
 use Rattle.basicop.specs.Ops.{mod_z, wrap}
-use Rattle.basicop.proofs.Calls.{rules_ℤ}
 use Rattle.basicop.proofs.Ints.{arith_ℤ, sfits_by, sub_ℤ_is}
 use Rattle.basicop.proofs.Shift.{mod_z_lt}
 use Rattle.basicop.proofs.Wrap.{wrap_low, wrap_high, wrap_fits}

@@ -1,5 +1,4 @@
 -- `between` meets its contract: the calls are the definition's.
-use borrow.Author.Rules.{rules}
 use Rattle.basicop.proofs.Calls.{callsℤ}
 use Rattle.basicop.proofs.interpolation.between.Goals as goal
 

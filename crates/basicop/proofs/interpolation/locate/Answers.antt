@@ -8,6 +8,5 @@ use Rattle.basicop.proofs.interpolation.locate.Goals as goal
 
 pub returns : goal.returns
 returns c =
-    let e = c.before.before.before in
     rw (got w16 c.sub.type_inv c.sub.ensures, back w16 {z = c.l_extract-halves.result.hi} (search rules), back w16 {z = c.l_extract-halves.result.lo} (search rules), to_z-of_z c.ranges.base)
     (halves c.args.base c.args.x c.l_extract-halves.result c.ranges.x (rw (to_z-of_z c.ranges.x) at c.l_extract-halves.ensures))

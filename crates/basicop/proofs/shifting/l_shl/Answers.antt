@@ -1,6 +1,5 @@
 -- `l_shl` meets its contract: by the sign of the count.
 use mathlib.Core.Path.{◌∙◌}
-use borrow.Author.Rules.{rules}
 use mir.Syntax.{w16, w32}
 use mir.Facts.{to_z-of_z}
 use Rattle.lists.proofs.Signed.{got}

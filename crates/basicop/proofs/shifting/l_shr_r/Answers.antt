@@ -1,7 +1,6 @@
 -- `l_shr_r` meets its contract: the bit added is the difference of two shifts.
 use mathlib.Core.Path.{◌≡◌, ◌∙◌}
 use Prim.Native.Nat.{◌-◌}
-use borrow.Author.Rules.{rules}
 use lib.IntN.{pos, nat_abs}
 use lib.Signed.{◌<ℤ◌}
 use mir.Syntax.{w16, w32}

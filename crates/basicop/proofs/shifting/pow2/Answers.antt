@@ -8,7 +8,6 @@ use lib.IntN.{pos}
 use lib.Pow.{shl_exact, pow-lt}
 use mir.Syntax.{w64}
 use mir.Facts.{to_z_pos}
-use Rattle.basicop.proofs.Calls.{rules_ℤ}
 use Rattle.basicop.proofs.shifting.pow2.Goals as goal
 
 shifted : (n : ℕ) → n < 31 → (1 * 2 ^ n) % 2 ^ 64 ≡ 2 ^ n

@@ -2,13 +2,8 @@
 use Prim.Native.Nat.{◌-◌, ◌*◌, ◌≤◌}
 use mathlib.Core.Path.{◌≡◌}
 use mathlib.Core.List.{◌++◌}
-use native.Mathlib.Omega.{arith}
-use borrow.Author.Rules.{rules}
-use lib.ListN.{length, take, drop, length-set}
-use mir.Syntax.{w16}
-use Rattle.lists.proofs.Signed.{got}
+use lib.ListN.{length, take, drop}
 use Rattle.coding.specs.Bytes.{words}
-use Rattle.coding.proofs.Bytes.{fill_more, fill_done}
 use Rattle.coding.proofs.numbers.fill.Given as goal
 
 abbrev pub invariant-loop-i : goal.invariant-loop-i

@@ -1,15 +1,9 @@
 -- `coding::put` meets its contract: the bytes put so far, and those of the numbers left, are the bytes of all.
 use Prim.Native.Nat.{◌-◌, ◌*◌, ◌≤◌}
-use mathlib.Core.Path.{◌≡◌, ap, ◌∙◌}
+use mathlib.Core.Path.{◌≡◌}
 use mathlib.Core.List.{◌++◌}
-use native.Mathlib.Omega.{arith}
-use borrow.Author.Rules.{rules}
-use lib.ListN.{length, take, drop, length-set}
-use mir.Syntax.{w16}
-use Rattle.lists.specs.Lists.{at}
-use Rattle.lists.proofs.Signed.{back}
-use Rattle.coding.specs.Bytes.{bits16, bytes_of}
-use Rattle.coding.proofs.Bytes.{put_more, put_done}
+use lib.ListN.{length, take, drop}
+use Rattle.coding.specs.Bytes.{bytes_of}
 use Rattle.coding.proofs.numbers.put.Given as goal
 
 abbrev pub invariant-loop-i : goal.invariant-loop-i

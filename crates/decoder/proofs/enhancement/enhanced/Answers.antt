@@ -1,12 +1,11 @@
 -- `decoder::enhanced` meets its contract: after i turns the first i samples are enhanced.
 use mathlib.Core.Path.{◌∙◌}
-use Prim.Native.Nat.{◌≤◌, ◌-◌}
 use borrow.Author.Rules.{rules}
 use mir.Syntax.{w16}
 use Rattle.lists.specs.Lists.{at}
 use Rattle.lists.proofs.Signed.{back, got}
 use Rattle.lists.proofs.Entries.{length_pairwise, at_pairwise}
-use Rattle.lists.proofs.Fill.{Filled, fill_none, fill_more, fill_whole}
+use Rattle.lists.proofs.Fill.{fill_none, fill_more, fill_whole}
 use Rattle.decoder.specs.Enhance.{enhanced_at, enhanced}
 use Rattle.decoder.proofs.enhancement.enhanced.Goals as goal
 
@@ -17,7 +16,6 @@ loop-i-init c = (search rules, fill_none (length_pairwise _ c.args.feedback c.ar
 pub loop-i-preserved : goal.loop-i-preserved
 unfolding enhanced
 loop-i-preserved c =
-    let l = c.before.before.before.before in
     let x = back w16 {z = at c.args.feedback c.loop-i.i} c.enhanced_sample-arg-1.given in
     let v = back w16 {z = at c.args.adaptive c.loop-i.i} c.enhanced_sample-arg-in-loop-i-1.given in (
       search rules,

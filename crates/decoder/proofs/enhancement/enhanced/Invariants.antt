@@ -1,13 +1,7 @@
 -- `decoder::enhanced` meets its contract: after i turns the first i samples are enhanced.
-use mathlib.Core.Path.{◌∙◌}
 use Prim.Native.Nat.{◌≤◌, ◌-◌}
-use borrow.Author.Rules.{rules}
-use mir.Syntax.{w16}
-use Rattle.lists.specs.Lists.{at}
-use Rattle.lists.proofs.Signed.{back, got}
-use Rattle.lists.proofs.Entries.{length_pairwise, at_pairwise}
-use Rattle.lists.proofs.Fill.{Filled, fill_none, fill_more, fill_whole}
-use Rattle.decoder.specs.Enhance.{enhanced_at, enhanced}
+use Rattle.lists.proofs.Fill.{Filled}
+use Rattle.decoder.specs.Enhance.{enhanced}
 use Rattle.decoder.proofs.enhancement.enhanced.Given as goal
 
 abbrev pub invariant-loop-i : goal.invariant-loop-i

@@ -1,5 +1,4 @@
 -- `decoder::enhanced_sample` meets its contract: the calls are the definition's.
-use borrow.Author.Rules.{rules}
 use Rattle.basicop.proofs.Calls.{callsℤ}
 use Rattle.decoder.proofs.enhancement.enhanced_sample.Goals as goal
 

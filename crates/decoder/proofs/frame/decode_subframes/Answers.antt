@@ -1,14 +1,9 @@
 -- The four subframes are those of the list: results-are, from the four steps and the samples joined.
-use borrow.Author.Rules.{rules}
 use Rattle.decoder.proofs.Subframes.{results_are}
 use Rattle.decoder.proofs.frame.decode_subframes.Goals as goal
 
 pub returns : goal.returns
 returns c =
-    let d = c.before.before.before.before.before.before in
-    let t = d.before.before.before.before in
-    let b = t.before.before.before.before in
-    let a = b.before.before.before.before in
     results_are c.args.core c.args.rows c.args.inputs c.decode_subframe-a.ensures c.decode_subframe-b.ensures c.decode_subframe-c.ensures c.decode_subframe-d.ensures c.joined-samples.ensures
 
 pub decode_subframe-d-requires : goal.decode_subframe-d-requires

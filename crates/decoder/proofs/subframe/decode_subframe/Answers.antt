@@ -1,10 +1,7 @@
 -- The subframe step, from excitation, synthesis, sharpening and history: subframe-is.
-use borrow.Author.Rules.{rules}
 use Rattle.decoder.proofs.Subframes.{subframe_is}
 use Rattle.decoder.proofs.subframe.decode_subframe.Goals as goal
 
 pub returns : goal.returns
 returns c =
-    let y = c.before.before.before.before.before in
-    let e = y.before.before.before.before in
     subframe_is c.args.core c.args.row c.args.p c.excite-e.ensures c.synthesise-s.ensures c.next_sharpening-sharpening.ensures c.newest-newest.ensures

@@ -1,14 +1,10 @@
 -- Feedback and first excitation, from prediction, sharpened innovation and gains: excitations-are.
-use borrow.Author.Rules.{rules}
 use Rattle.basicop.proofs.Ints.{arith_ℤ}
 use Rattle.decoder.proofs.Subframes.{excitations_are}
 use Rattle.decoder.proofs.subframe.excite.Goals as goal
 
 pub returns : goal.returns
 returns c =
-    let f = c.before in
-    let g = f.before in
-    let v = g.before.before.before in
     excitations_are c.args.past c.args.sharpening.0 c.args.p c.predict-adaptive.ensures c.sharpen-code.ensures c.feedback-feedback.ensures c.first_excitation-excitation.ensures
 
 pub sharpen-code-requires : goal.sharpen-code-requires

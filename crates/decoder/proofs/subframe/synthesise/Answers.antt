@@ -8,9 +8,6 @@ use Rattle.decoder.proofs.subframe.synthesise.Goals as goal
 
 pub returns-then-place-lt40 : goal.returns-then-place-lt40
 returns-then-place-lt40 c =
-    let p = c.before.before.before.before in
-    let q = p.before.before.before in
-    let f = q.before.before.before in
     result_retried c.args.row c.args.feedback c.args.excitation c.args.history c.args.past (search rules)
     (ap (λ (o : Output). o.place) c.preview-first.ensures)
     c.if-place-lt40.true
@@ -20,7 +17,6 @@ returns-then-place-lt40 c =
 
 pub returns : goal.returns
 returns c =
-    let f = c.before.before.before in
     result_unretried c.args.row c.args.feedback c.args.excitation c.args.history c.args.past (search rules)
     (ap (λ (o : Output). o.place) c.preview-first.ensures)
     c.if-place-lt40.false

@@ -1,5 +1,4 @@
 -- `smooth` meets its contract: the calls are the definition's.
-use borrow.Author.Rules.{rules}
 use Rattle.basicop.proofs.Calls.{callsℤ}
 use Rattle.energy.proofs.control.smooth.Goals as goal
 

@@ -1,6 +1,5 @@
 -- `energy_gain` meets its contract: the energies are positive where the ratio is taken.
 use mathlib.Core.Path.{◌≡◌, ◌∙◌}
-use borrow.Author.Rules.{rules}
 use lib.IntN.{pos}
 use lib.Signed.{◌<ℤ◌}
 use mir.Syntax.{w16, w32}

@@ -1,6 +1,5 @@
 -- `energy_ratio` meets its contract: for positive energies the division is in order.
 use mathlib.Core.Path.{◌≡◌}
-use borrow.Author.Rules.{rules}
 use mir.Syntax.{w16, w32}
 use mir.Val.{to_z, of_z}
 use mir.Facts.{to_z-of_z}

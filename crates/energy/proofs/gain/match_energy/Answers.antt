@@ -1,6 +1,5 @@
 -- `match_energy` meets its contract: by the test of the output's energy.
 use mathlib.Core.Path.{◌≡◌, ◌∙◌}
-use borrow.Author.Rules.{rules}
 use lib.IntN.{pos}
 use lib.Signed.{◌<ℤ◌}
 use mir.Syntax.{w32}

@@ -1,5 +1,4 @@
 -- `scale` meets its contract: the calls are the definition's.
-use borrow.Author.Rules.{rules}
 use Rattle.basicop.proofs.Calls.{callsℤ}
 use Rattle.energy.proofs.gain.scale.Goals as goal
 

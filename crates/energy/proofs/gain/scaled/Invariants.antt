@@ -1,13 +1,7 @@
 -- `scaled` meets its contract: its loop fills the array.
 use Prim.Native.Nat.{◌≤◌, ◌-◌}
-use borrow.Author.Rules.{rules}
-use mathlib.Core.Path.{ap, ◌∙◌}
 use mathlib.Core.List.{map}
-use lib.ListN.{length-map}
-use mir.Syntax.{w16}
-use Rattle.lists.proofs.Signed.{back, got}
-use Rattle.lists.proofs.Entries.{at_map}
-use Rattle.lists.proofs.Fill.{Filled, fill_none, fill_more, fill_whole}
+use Rattle.lists.proofs.Fill.{Filled}
 use Rattle.energy.specs.Gain.{scaled_by}
 use Rattle.energy.proofs.gain.scaled.Given as goal
 

@@ -3,7 +3,6 @@ use mir.Syntax.{w16, w32}
 use mir.Facts.{to_z-of_z}
 use Rattle.lists.proofs.Signed.{got}
 use Rattle.basicop.proofs.Range.{widened}
-use Rattle.basicop.proofs.Calls.{rules_ℤ}
 use Rattle.energy.proofs.gain.scaled_ratio.Goals as goal
 
 pub returns : goal.returns

@@ -1,6 +1,5 @@
 -- `inverse_sqrt` meets its contract: each step is the definition's, and the position that a positive number is scaled to lies in the table.
 use mathlib.Core.Path.{◌≡◌, refl, ◌∙◌}
-use borrow.Author.Rules.{rules}
 use lib.IntN.{pos}
 use lib.Signed.{◌<ℤ◌}
 use mir.Syntax.{w32}

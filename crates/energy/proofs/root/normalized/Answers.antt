@@ -1,7 +1,6 @@
 -- `normalized` meets its contract: the test of the exponent is the definition's.
 use mathlib.Core.Path.{◌≡◌, refl, ◌∙◌}
 use native.Mathlib.Omega.{arith}
-use borrow.Author.Rules.{rules}
 use lib.IntN.{pos}
 use mir.Syntax.{w16, w32}
 use mir.Facts.{to_z-of_z, to_z_pos}

@@ -6,7 +6,6 @@ use mir.Syntax.{w16, w64}
 use mir.Val.{SFits, to_z, of_z}
 use mir.Facts.{to_z-of_z}
 use Rattle.basicop.proofs.Range.{sfits_mul, sfits_scale, widened}
-use Rattle.basicop.proofs.Calls.{rules_ℤ}
 use Rattle.energy.proofs.Sums.{square_is, square_most}
 use Rattle.energy.proofs.sum.doubled_square.Goals as goal
 use Rattle.energy.proofs.sum.doubled_square.Goals.{Start}

@@ -1,6 +1,5 @@
 -- `energy` meets its contract: the sum is at the limit where it is above 2147483646.
 use mathlib.Core.Path.{ap, ◌∙◌}
-use borrow.Author.Rules.{rules}
 use mir.Syntax.{w32}
 use Rattle.lists.proofs.Signed.{got}
 use Rattle.basicop.proofs.Tests.{less_yes, less_no}
@@ -11,7 +10,6 @@ use Rattle.energy.proofs.sum.energy.Goals as goal
 
 pub returns-then-sum-gt2147483646 : goal.returns-then-sum-gt2147483646
 returns-then-sum-gt2147483646 c =
-    let q = c.before.before.before in
     got w32 c.squares.type_inv (c.squares.ensures ∙ ap squares c.quarter.ensures)
     ∙ energy_again c.args.samples (less_yes (rw (got w32 c.squares-sum.type_inv c.squares-sum.ensures) at c.if-sum-gt2147483646.true))
 

@@ -1,16 +1,8 @@
 -- `squares` meets its contract: its loop folds the exact sum, which is held to 32 bits once.
 use Prim.Native.Nat.{◌*◌, ◌-◌, ◌≤◌}
-use native.Mathlib.Omega.{arith}
-use borrow.Author.Rules.{rules}
-use mathlib.Core.Path.{refl, ap, ◌∙◌}
-use lib.IntN.{pos}
 use lib.ListN.{length}
-use mir.Syntax.{w16, w32, w64}
-use mir.Facts.{to_z_pos}
-use Rattle.basicop.specs.Ops.{clamp}
-use Rattle.lists.proofs.Signed.{back, got}
-use Rattle.lists.proofs.Fold.{Folding, fold_none, fold_more, fold_done}
-use Rattle.energy.proofs.Sums.{with_square, exact, squares_held}
+use Rattle.lists.proofs.Fold.{Folding}
+use Rattle.energy.proofs.Sums.{with_square, exact}
 use Rattle.energy.proofs.sum.squares.Given as goal
 
 abbrev pub invariant-loop-i : goal.invariant-loop-i

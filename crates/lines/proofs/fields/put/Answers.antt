@@ -1,8 +1,6 @@
 -- `lines::put` meets its contract: after i turns the first i bytes are put, and those before `at` are as they came.
-use Prim.Native.Nat.{◌-◌}
 use borrow.Author.Rules.{rules}
-use lib.ListN.{length}
-use Rattle.lines.proofs.Puts.{Putting, putting_none, putting_more, putting_done}
+use Rattle.lines.proofs.Puts.{putting_none, putting_more, putting_done}
 use Rattle.lines.proofs.fields.put.Goals as goal
 
 pub loop-i-init : goal.loop-i-init

@@ -1,6 +1,5 @@
 -- `lines::put_decimal` meets its contract: the digits are put by `put_digits`, and a number of 64 bits has at most 20.
 use native.Mathlib.Omega.{arith}
-use borrow.Author.Rules.{rules}
 use Rattle.lines.proofs.Decimals.{u64_digits}
 use Rattle.lines.proofs.fields.put_decimal.Goals as goal
 

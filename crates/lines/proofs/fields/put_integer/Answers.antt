@@ -1,6 +1,5 @@
 -- `lines::put_integer` meets its contract: a negative number is the minus sign and the digits of its magnitude, any other the digits alone.
 use native.Mathlib.Omega.{arith}
-use borrow.Author.Rules.{rules}
 use mir.Facts.{to_z-of_z}
 use Rattle.lines.proofs.Puts.{put_plain, put_minus}
 use Rattle.lines.proofs.fields.put_integer.Goals as goal

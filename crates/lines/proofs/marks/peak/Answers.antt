@@ -1,6 +1,5 @@
 -- `lines::peak` meets its contract: at each turn what is left to fold from `most` gives the peak, and a sample's magnitude, at most 32768, is its distance from zero.
-use mathlib.Core.List.{map}
-use Prim.Native.Nat.{ℕ, ◌≤◌, ◌<◌, ◌-◌}
+use Prim.Native.Nat.{ℕ, ◌<◌}
 use native.Mathlib.Omega.{arith}
 use borrow.Author.Rules.{rules}
 use mir.Syntax.{w16, w32}
@@ -10,11 +9,10 @@ use lib.IntN.{ℤ, pos, nat_abs}
 use lib.ListN.{length-map}
 use Rattle.lists.specs.Lists.{at}
 use Rattle.basicop.proofs.Range.{nat_abs_in, sfits_wider, widened, to_z_nat}
-use Rattle.basicop.proofs.Calls.{rules_ℤ}
 use Rattle.lists.proofs.Entries.{at_map}
 use Rattle.lists.proofs.Signed.{got}
-use Rattle.lists.proofs.Fold.{Folding, fold_more, fold_done}
-use Rattle.lines.specs.Lines.{larger, distance, peak_of}
+use Rattle.lists.proofs.Fold.{fold_more, fold_done}
+use Rattle.lines.specs.Lines.{larger, distance}
 use Rattle.lines.proofs.Peaks.{peak_from_zero}
 use Rattle.lines.proofs.marks.peak.Goals as goal
 

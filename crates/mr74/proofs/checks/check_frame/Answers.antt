@@ -1,7 +1,6 @@
 -- `check_frame` meets its contract: group after group, the first that refuses decides.
 use mathlib.Core.Path.{ap, ◌∙◌}
 use mathlib.Core.Bool.{not}
-use borrow.Author.Rules.{rules}
 use lib.ListN.{length}
 use Rattle.outcome.proofs.Checks.{refused_here, accepted_here, accepts_here}
 use Rattle.mr74.specs.Checks.{frame_outcome}

@@ -1,6 +1,5 @@
 -- `check_lsfs` meets its contract: the places are those of the two searches.
 use mathlib.Core.Path.{◌∙◌}
-use borrow.Author.Rules.{rules}
 use Rattle.outcome.specs.declared.Outcome.TheVariants.{Lsf, LsfGap}
 use Rattle.outcome.proofs.Checks.{place_met, place_unmet, none_left}
 use Rattle.mr74.proofs.checks.check_lsfs.Goals as goal

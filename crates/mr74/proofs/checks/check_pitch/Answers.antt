@@ -1,6 +1,5 @@
 -- `check_pitch` meets its contract: the place is that of the search.
 use mathlib.Core.Path.{◌∙◌}
-use borrow.Author.Rules.{rules}
 use Rattle.outcome.specs.declared.Outcome.TheVariants.{PitchIndex}
 use Rattle.outcome.proofs.Checks.{place_met, place_unmet, none_left}
 use Rattle.mr74.proofs.checks.check_pitch.Goals as goal

@@ -1,7 +1,6 @@
 -- `check_sheet` meets its contract: group after group, the first that refuses decides.
 use mathlib.Core.Path.{ap, ◌∙◌}
 use mathlib.Core.Bool.{not}
-use borrow.Author.Rules.{rules}
 use Rattle.outcome.proofs.Checks.{refused_here, accepted_here}
 use Rattle.mr74.proofs.checks.check_sheet.Goals as goal
 

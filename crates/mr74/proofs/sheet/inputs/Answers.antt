@@ -15,9 +15,6 @@ lags-late-requires c =
 
 pub returns : goal.returns
 returns c =
-    let a = c.before.before.before in
-    let l = a.before.before.before.before.before in
-    let k = l.before.before.before in
     inputs_are c.args.sheet.now c.lags-early.result c.lags-late.result c.parameters-a.result c.parameters-b.result c.parameters-c.result c.parameters-d.result
     c.lsfs-lsfs.ensures
     (c.lags-early.ensures ∙ ap₂ lag_pair (back w16 c.lags-arg-1.given) (back w16 c.lags-arg-2-1.given))

@@ -1,5 +1,4 @@
 -- The lags of two subframes, from their indices, which fit a byte: lags-are.
-use borrow.Author.Rules.{rules}
 use lib.Dec.{lit≤}
 use mathlib.Core.Path.{◌∙◌}
 use mir.Facts.{to_z-of_z}
@@ -12,5 +11,4 @@ byte-requires-2 c = rw (to_z-of_z c.ranges.second) (c.requires.1.0, ≤ℤ_trans
 
 pub returns : goal.returns
 returns c =
-    let a = c.before.before in
     lags_are c.from_absolute-a.result c.from_relative-b.result (c.byte.ensures ∙ to_z-of_z c.ranges.first) (c.byte-2.ensures ∙ to_z-of_z c.ranges.second) c.from_absolute-a.ensures c.from_relative-b.ensures

@@ -1,6 +1,5 @@
 -- `parameters` meets its contract: gains and innovation are read at their places in the sheet, and the lag is passed on: parameters-are.
 use Prim.Native.Nat.{◌+◌, ◌*◌}
-use borrow.Author.Rules.{rules}
 use mir.Syntax.{w16}
 use Rattle.lists.specs.Lists.{at}
 use Rattle.lists.proofs.Signed.{back}

@@ -1,5 +1,4 @@
 -- `Outcome::accepted` meets its contract: the number is 0.
-use borrow.Author.Rules.{rules}
 use mathlib.Core.Path.{ap}
 use Prim.Native.Nat.{ℕ}
 use lib.Dec.{eqb}

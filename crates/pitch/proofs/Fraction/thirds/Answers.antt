@@ -1,5 +1,4 @@
 -- `Fraction::thirds` meets its contract: fraction by fraction, the number is the definition's.
-use borrow.Author.Rules.{rules}
 use Rattle.pitch.proofs.Fraction.thirds.Goals as goal
 
 pub returns-in-MinusThird : goal.returns-in-MinusThird

@@ -1,6 +1,5 @@
 -- `PitchLag::from_absolute` meets its contract: below 197 the lag is in thirds, from 197 on whole: absolute-below, absolute-from.
 use mathlib.Core.Path.{refl, sym, ◌∙◌}
-use borrow.Author.Rules.{rules}
 use Rattle.pitch.proofs.Lags.{lag_eq, absolute_below, absolute_from}
 use Rattle.pitch.proofs.PitchLag.from_absolute.Goals as goal
 

@@ -1,7 +1,6 @@
 -- `PitchLag::from_relative` meets its contract: the least lag lies in 20..=134, so no step clamps and the product is the division by 3: relative-is.
 use mathlib.Core.Path.{◌≡◌, refl, sym, ◌∙◌}
 use Prim.Native.Nat.{ℕ, ◌≤◌}
-use borrow.Author.Rules.{rules}
 use native.Mathlib.Omega.{arith}
 use lib.IntN.{pos}
 use Rattle.pitch.specs.Lag.{lag_min}

@@ -1,17 +1,8 @@
 -- `postfilter::correlation` meets its contract: after k turns the sum is that of k steps of the definition.
-use mathlib.Core.Path.{refl, ap, ◌∙◌}
-use Prim.Native.Nat.{◌+◌, ◌≤◌, ◌-◌}
-use native.Mathlib.Numerals.{add-one}
-use borrow.Author.Rules.{rules}
+use Prim.Native.Nat.{◌≤◌, ◌-◌}
 use lib.IntN.{pos}
-use lib.ListN.{length}
-use mir.Syntax.{w16, w32}
-use mir.Val.{to_z}
-use Rattle.lists.specs.Lists.{at}
-use Rattle.lists.proofs.Signed.{back, got}
-use Rattle.lists.proofs.Count.{Iter, iter_none, iter_more, iter_done}
-use Rattle.basicop.proofs.Calls.{l_mac_eq}
-use Rattle.postfilter.specs.Tilt.{correlation_step, correlation}
+use Rattle.lists.proofs.Count.{Iter}
+use Rattle.postfilter.specs.Tilt.{correlation_step}
 use Rattle.postfilter.proofs.tilting.correlation.Given as goal
 
 abbrev pub invariant-loop-k : goal.invariant-loop-k

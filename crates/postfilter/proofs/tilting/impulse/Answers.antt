@@ -7,7 +7,5 @@ use Rattle.postfilter.proofs.tilting.impulse.Goals as goal
 
 pub returns : goal.returns
 returns c =
-    let k = c.before in
-    let s = k.before.before.before.before in
     let a = c.before.args in
     c.copy.ensures ∙ ap (take 22) c.first_samples-samples.ensures ∙ rw c.padded.ensures (impulse_first a.numerator a.denominator (search rules))

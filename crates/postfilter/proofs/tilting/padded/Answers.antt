@@ -1,5 +1,4 @@
 -- `postfilter::padded` meets its contract: the row, then what stands of the zeros.
-use borrow.Author.Rules.{rules}
 use Rattle.postfilter.proofs.tilting.padded.Goals as goal
 
 pub returns : goal.returns

@@ -1,6 +1,5 @@
 -- `postfilter::tilt_of` meets its contract: its test is the definition's, and the correlation is at most the energy, so that the division is in order.
 use mathlib.Core.Path.{◌≡◌, ap, ◌∙◌}
-use borrow.Author.Rules.{rules}
 use lib.IntN.{pos}
 use mir.Syntax.{w16, w32}
 use mir.Val.{to_z, of_z}

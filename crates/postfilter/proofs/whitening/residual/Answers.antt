@@ -1,13 +1,13 @@
 -- `postfilter::residual` meets its contract: the first n numbers are those of the residual.
 use mathlib.Core.Path.{◌≡◌, sym, ◌∙◌}
-use Prim.Native.Nat.{ℕ, ◌+◌, ◌≤◌, ◌-◌}
+use Prim.Native.Nat.{ℕ, ◌+◌}
 use borrow.Author.Rules.{rules}
 use borrow.Author.Tests.{ltb-true}
 use mir.Syntax.{w16, w32}
 use mir.Val.{to_z, of_z}
 use Rattle.lists.proofs.Signed.{got}
 use Rattle.lists.proofs.Entries.{length_tab, at_tab}
-use Rattle.lists.proofs.Fill.{Filled, fill_none, fill_more, fill_whole}
+use Rattle.lists.proofs.Fill.{fill_none, fill_more, fill_whole}
 use Rattle.postfilter.specs.Residual.{residual_at, residual}
 use Rattle.postfilter.proofs.whitening.residual.Goals as goal
 
@@ -22,7 +22,6 @@ residual_sum-requires c =
 pub loop-n-preserved : goal.loop-n-preserved
 unfolding residual
 loop-n-preserved c =
-    let m = c.before.before in
     let x = c.joined-x.result in
     let a = c.args.numerator in
     let e : to_z w16 (of_z w16 c.round.result) ≡ residual_at a x (c.loop-n.n + 10) = cc (got w16 c.round.type_inv c.round.ensures, got w32 c.l_shl.type_inv c.l_shl.ensures, got w32 c.residual_sum.type_inv c.residual_sum.ensures) in

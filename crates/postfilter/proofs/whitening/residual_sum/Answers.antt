@@ -1,15 +1,13 @@
 -- `postfilter::residual_sum` meets its contract: after j steps the sum is that of j steps, and by its size none of them clamps where `plain` says so.
 use mathlib.Core.Path.{refl, ◌∙◌}
-use Prim.Native.Nat.{◌≤◌, ◌-◌}
 use borrow.Author.Rules.{rules}
 use mir.Syntax.{w16, w32}
-use mir.Val.{to_z}
 use Rattle.lists.proofs.Signed.{back, got}
 use Rattle.lists.proofs.Count.{iter_done}
 use Rattle.basicop.proofs.Calls.{l_mac_eq}
 use Rattle.basicop.proofs.Unclamped.{unclamped_eq}
 use Rattle.postfilter.specs.Residual.{residual_sum}
-use Rattle.postfilter.proofs.Residuals.{Summed, first, summed_none, next, summed_more}
+use Rattle.postfilter.proofs.Residuals.{first, summed_none, next, summed_more}
 use Rattle.postfilter.proofs.whitening.residual_sum.Goals as goal
 
 pub mac-s-requires : goal.mac-s-requires
@@ -23,12 +21,10 @@ loop-j-init c =
 
 pub mac-s-requires-in-loop-j : goal.mac-s-requires-in-loop-j
 mac-s-requires-in-loop-j c q =
-    let l = c.before.before.before in
     unclamped_eq (back w16 c.mac-arg-in-loop-j-1.given) (back w16 c.mac-arg-in-loop-j-2-1.given) (next c.args.a.now c.args.x.now c.args.place c.requires.1.1 c.loop-j.invariant.1 (search rules) c.mac-arg-in-loop-j-2-1.given q).plain
 
 pub loop-j-preserved : goal.loop-j-preserved
 loop-j-preserved c =
-    let l = c.before.before.before.before in
     let g = c.mac-arg-in-loop-j-2-1.given in
     (search rules, summed_more c.args.a.now c.args.x.now c.args.place c.requires.1.1 c.loop-j.invariant.1 (search rules) g (got w32 c.mac-s-in-loop-j.type_inv (c.mac-s-in-loop-j.ensures ∙ l_mac_eq refl (back w16 c.mac-arg-in-loop-j-1.given) (back w16 g))))
 

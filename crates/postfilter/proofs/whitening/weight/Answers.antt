@@ -1,14 +1,14 @@
 -- `postfilter::weight` meets its contract: the first coefficient stands as it came, and after i turns the next i are weighted by their factors.
 use mathlib.Core.Path.{◌≡◌, sym, ◌∙◌}
-use Prim.Native.Nat.{◌+◌, ◌≤◌, ◌-◌}
+use Prim.Native.Nat.{◌+◌}
 use borrow.Author.Rules.{rules}
 use lib.Dec.{lit<}
 use mir.Syntax.{w16, w32}
 use mir.Val.{to_z, of_z}
 use Rattle.lists.specs.Lists.{at}
 use Rattle.lists.proofs.Signed.{back, got}
-use Rattle.lists.proofs.Fill.{Filled, fill_none, fill_keep, fill_more, fill_whole}
-use Rattle.postfilter.specs.Weight.{weighted_by, weighted}
+use Rattle.lists.proofs.Fill.{fill_none, fill_keep, fill_more, fill_whole}
+use Rattle.postfilter.specs.Weight.{weighted_by}
 use Rattle.postfilter.proofs.Weights.{weighted_length, weighted_first, weighted_at}
 use Rattle.postfilter.proofs.whitening.weight.Goals as goal
 
@@ -20,7 +20,6 @@ loop-i-init c =
 
 pub loop-i-preserved : goal.loop-i-preserved
 loop-i-preserved c =
-    let m = c.before in
     let a = c.args.coefficients in
     let f = c.args.factors.now in
     let i = c.loop-i.i in

@@ -4,7 +4,6 @@ use mathlib.Core.Bool.{not}
 use mathlib.Core.List.{List}
 use Prim.Native.Nat.{ℕ, ◌-◌, ◌≤◌}
 use native.Mathlib.Omega.{arith}
-use borrow.Author.Rules.{rules}
 use lib.ListN.{length, length-take, length-drop}
 use Rattle.outcome.specs.Checks.{first_met}
 use Rattle.outcome.proofs.Checks.{refused_here, accepted_here, accepts_here}

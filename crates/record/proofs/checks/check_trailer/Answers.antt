@@ -1,5 +1,4 @@
 -- `check_trailer` meets its contract: each test is its check's.
-use borrow.Author.Rules.{rules}
 use mathlib.Core.Path.{sym, ◌∙◌}
 use Rattle.record.proofs.Trailers.{first_differs, second_differs, version_differs, distance_differs, count_differs, trailer_passes}
 use Rattle.record.proofs.checks.check_trailer.Goals as goal

@@ -1,7 +1,6 @@
 -- `check_write` meets its contract: group after group, the first that refuses decides.
 use mathlib.Core.Path.{ap, ◌∙◌}
 use mathlib.Core.Bool.{not}
-use borrow.Author.Rules.{rules}
 use Rattle.outcome.proofs.Checks.{refused_here, accepted_here}
 use Rattle.record.proofs.checks.check_write.Goals as goal
 

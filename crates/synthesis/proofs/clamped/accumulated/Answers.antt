@@ -1,13 +1,11 @@
 -- `synthesis::accumulated` meets its contract: before tap k the sum is the clamped one of the taps so far.
-use Prim.Native.Nat.{◌≤◌, ◌-◌}
+use Prim.Native.Nat.{◌-◌}
 use borrow.Author.Rules.{rules}
 use native.Mathlib.Omega.{arith}
-use lib.ListN.{take}
 use mir.Syntax.{w16, w32}
-use mir.Val.{to_z}
 use Rattle.lists.specs.Lists.{at}
 use Rattle.lists.proofs.Signed.{back, got}
-use Rattle.synthesis.proofs.Taps.{Tapped, tapped_none, tapped_more, tapped_done, ago_take}
+use Rattle.synthesis.proofs.Taps.{tapped_none, tapped_more, tapped_done, ago_take}
 use Rattle.synthesis.proofs.clamped.accumulated.Goals as goal
 
 pub loop-k-init : goal.loop-k-init
@@ -15,7 +13,6 @@ loop-k-init c = (search rules, (search rules, tapped_none (got w32 c.l_mult-s.ty
 
 pub loop-k-preserved : goal.loop-k-preserved
 loop-k-preserved c =
-    let l = c.before.before.before.before in
     let k = c.loop-k.k in (
       search rules,
       (

@@ -1,13 +1,7 @@
 -- `synthesis::accumulated` meets its contract: before tap k the sum is the clamped one of the taps so far.
 use Prim.Native.Nat.{◌≤◌, ◌-◌}
-use borrow.Author.Rules.{rules}
-use native.Mathlib.Omega.{arith}
 use lib.ListN.{take}
-use mir.Syntax.{w16, w32}
-use mir.Val.{to_z}
-use Rattle.lists.specs.Lists.{at}
-use Rattle.lists.proofs.Signed.{back, got}
-use Rattle.synthesis.proofs.Taps.{Tapped, tapped_none, tapped_more, tapped_done, ago_take}
+use Rattle.synthesis.proofs.Taps.{Tapped}
 use Rattle.synthesis.proofs.clamped.accumulated.Given as goal
 
 abbrev pub invariant-loop-k : goal.invariant-loop-k

@@ -1,5 +1,4 @@
 -- `synthesis::clamped_sum` meets its contract: of a light row twice the half is the clamped sum.
-use borrow.Author.Rules.{rules}
 use mir.Syntax.{w16, w32}
 use mir.Facts.{to_z-of_z}
 use Rattle.lists.proofs.Signed.{back, got}

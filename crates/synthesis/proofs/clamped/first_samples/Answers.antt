@@ -1,5 +1,5 @@
 -- `synthesis::first_samples` meets its contract: n samples are fed, and zeros stand after them.
-use Prim.Native.Nat.{◌≤◌, ◌-◌}
+use Prim.Native.Nat.{◌-◌}
 use borrow.Author.Rules.{rules}
 use borrow.Author.Tests.{ltb-true}
 use mathlib.Core.Path.{◌≡◌, sym, ap, ◌∙◌}
@@ -9,7 +9,7 @@ use mir.Syntax.{w16, w32}
 use Rattle.lists.specs.Lists.{at}
 use Rattle.lists.proofs.Signed.{back, got}
 use Rattle.synthesis.specs.Synthesis.{sample}
-use Rattle.synthesis.proofs.Passes.{Feeding, feeding_none, feeding_more, feeding_done, without_history}
+use Rattle.synthesis.proofs.Passes.{feeding_none, feeding_more, feeding_done, without_history}
 use Rattle.synthesis.proofs.clamped.first_samples.Goals as goal
 
 pub loop-n-init : goal.loop-n-init
@@ -23,7 +23,6 @@ clamped_sum-s-requires c =
 
 pub loop-n-preserved : goal.loop-n-preserved
 loop-n-preserved c =
-    let m = c.before.before in
     let x = c.args.excitation in
     let v = back w16 {z = at x c.loop-n.n} c.clamped_sum-arg-1.given in
     let s = got w32 c.clamped_sum-s.type_inv (rw v at c.clamped_sum-s.ensures) in

@@ -1,15 +1,8 @@
 -- `synthesis::first_samples` meets its contract: n samples are fed, and zeros stand after them.
 use Prim.Native.Nat.{◌≤◌, ◌-◌}
-use borrow.Author.Rules.{rules}
-use borrow.Author.Tests.{ltb-true}
-use mathlib.Core.Path.{◌≡◌, sym, ap, ◌∙◌}
-use lib.IntN.{pos}
-use lib.ListN.{length, take, drop, replicate}
-use mir.Syntax.{w16, w32}
-use Rattle.lists.specs.Lists.{at}
-use Rattle.lists.proofs.Signed.{back, got}
+use lib.ListN.{take}
 use Rattle.synthesis.specs.Synthesis.{sample}
-use Rattle.synthesis.proofs.Passes.{Feeding, feeding_none, feeding_more, feeding_done, without_history}
+use Rattle.synthesis.proofs.Passes.{Feeding}
 use Rattle.synthesis.proofs.clamped.first_samples.Given as goal
 
 abbrev pub invariant-loop-n : goal.invariant-loop-n

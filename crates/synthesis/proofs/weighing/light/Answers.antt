@@ -1,5 +1,5 @@
 -- `synthesis::light` meets its contract: after k turns the sum is the weight of the first k coefficients.
-use Prim.Native.Nat.{ℕ, ◌≤◌, ◌-◌}
+use Prim.Native.Nat.{ℕ}
 use borrow.Author.Rules.{rules}
 use mathlib.Core.Path.{◌≡◌, ap, ◌∙◌}
 use native.Mathlib.Omega.{arith}
@@ -8,7 +8,7 @@ use lib.IntN.{nat_abs}
 use mir.Syntax.{w16}
 use Rattle.lists.specs.Lists.{at}
 use Rattle.lists.proofs.Signed.{back}
-use Rattle.synthesis.proofs.Taps.{Weighed, weighed_none, weighed_more}
+use Rattle.synthesis.proofs.Taps.{weighed_none, weighed_more}
 use Rattle.synthesis.proofs.weighing.light.Goals as goal
 
 pub overflow_add-w : goal.overflow_add-w

@@ -1,14 +1,6 @@
 -- `synthesis::light` meets its contract: after k turns the sum is the weight of the first k coefficients.
-use Prim.Native.Nat.{ℕ, ◌≤◌, ◌-◌}
-use borrow.Author.Rules.{rules}
-use mathlib.Core.Path.{◌≡◌, ap, ◌∙◌}
-use native.Mathlib.Omega.{arith}
-use lib.Dec.{ltb}
-use lib.IntN.{nat_abs}
-use mir.Syntax.{w16}
-use Rattle.lists.specs.Lists.{at}
-use Rattle.lists.proofs.Signed.{back}
-use Rattle.synthesis.proofs.Taps.{Weighed, weighed_none, weighed_more}
+use Prim.Native.Nat.{◌≤◌, ◌-◌}
+use Rattle.synthesis.proofs.Taps.{Weighed}
 use Rattle.synthesis.proofs.weighing.light.Given as goal
 
 abbrev pub invariant-loop-k : goal.invariant-loop-k

@@ -1,6 +1,5 @@
 -- `synthesis::size` meets its contract: the opposite of a negative number has its magnitude, which is at most 32768 for 16 bits.
 use mathlib.Core.Path.{refl, ap, ◌∙◌}
-use borrow.Author.Rules.{rules}
 use lib.IntN.{nat_abs}
 use mir.Syntax.{w16, w32}
 use mir.Facts.{to_z-of_z}

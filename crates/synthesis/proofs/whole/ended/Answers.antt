@@ -1,5 +1,4 @@
 -- `synthesis::ended` meets its contract: 16 times the half is 8 times the sum, and what is inside 32 bits fits 16 after >> 16.
-use borrow.Author.Rules.{rules}
 use mathlib.Core.Path.{sym, ◌∙◌}
 use mathlib.Core.Bool.{◌||◌}
 use lib.IntN.{pos, ◌+ℤ◌, ◌*ℤ◌}

@@ -1,5 +1,5 @@
 -- `synthesis::first_pass` meets its contract: n samples are fed, and none of their numbers lies outside.
-use Prim.Native.Nat.{◌+◌, ◌≤◌, ◌-◌}
+use Prim.Native.Nat.{◌+◌}
 use borrow.Author.Rules.{rules}
 use borrow.Author.Tests.{ltb-true}
 use mathlib.Core.Path.{◌≡◌, sym, ◌∙◌}
@@ -8,7 +8,7 @@ use mir.Syntax.{w16, w64}
 use mir.Val.{to_z, of_z}
 use Rattle.lists.specs.Lists.{at}
 use Rattle.lists.proofs.Signed.{back}
-use Rattle.synthesis.proofs.Passes.{feeding_none, feeding_done, Passing, passing_none, SampleIs, sample_is, passing_more, passing_left, passing_done}
+use Rattle.synthesis.proofs.Passes.{feeding_none, feeding_done, passing_none, SampleIs, sample_is, passing_more, passing_left, passing_done}
 use Rattle.synthesis.proofs.whole.first_pass.Goals as goal
 
 pub loop-n-init : goal.loop-n-init
@@ -22,8 +22,6 @@ summed-s-requires c =
 
 pub returns-then-e : goal.returns-then-e
 returns-then-e c =
-    let m = c.before in
-    let p = m.before.before in
     let a = c.args in
     let h = c.roomed-buf.ensures.1 in
     let x = back w16 {z = at a.excitation c.loop-n.n} c.summed-arg-1.given in
@@ -34,8 +32,6 @@ returns-then-e c =
 
 pub loop-n-preserved : goal.loop-n-preserved
 loop-n-preserved c =
-    let m = c.before.before in
-    let p = m.before.before in
     let a = c.args in
     let x = back w16 {z = at a.excitation c.loop-n.n} c.summed-arg-1.given in
     let g : to_z w64 (of_z w64 c.summed-s.result.half) ≡ c.summed-s.result.half = search rules in

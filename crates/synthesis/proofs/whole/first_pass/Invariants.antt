@@ -1,14 +1,7 @@
 -- `synthesis::first_pass` meets its contract: n samples are fed, and none of their numbers lies outside.
-use Prim.Native.Nat.{◌+◌, ◌≤◌, ◌-◌}
-use borrow.Author.Rules.{rules}
-use borrow.Author.Tests.{ltb-true}
-use mathlib.Core.Path.{◌≡◌, sym, ◌∙◌}
+use Prim.Native.Nat.{◌≤◌, ◌-◌}
 use lib.ListN.{take}
-use mir.Syntax.{w16, w64}
-use mir.Val.{to_z, of_z}
-use Rattle.lists.specs.Lists.{at}
-use Rattle.lists.proofs.Signed.{back}
-use Rattle.synthesis.proofs.Passes.{feeding_none, feeding_done, Passing, passing_none, SampleIs, sample_is, passing_more, passing_left, passing_done}
+use Rattle.synthesis.proofs.Passes.{Passing}
 use Rattle.synthesis.proofs.whole.first_pass.Given as goal
 
 abbrev pub invariant-loop-n : goal.invariant-loop-n

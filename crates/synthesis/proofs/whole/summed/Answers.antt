@@ -1,5 +1,4 @@
 -- `synthesis::summed` meets its contract: of a light row no number lies outside.
-use borrow.Author.Rules.{rules}
 use mir.Syntax.{w16, w32}
 use mir.Facts.{to_z-of_z}
 use Rattle.lists.proofs.Signed.{back}

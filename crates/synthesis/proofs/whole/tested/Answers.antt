@@ -1,18 +1,17 @@
 -- `synthesis::tested` meets its contract: before tap k it has half the sum, whose numbers after the first lie inside; once one lies outside the flag is set.
-use Prim.Native.Nat.{◌≤◌, ◌-◌}
+use Prim.Native.Nat.{◌-◌}
 use borrow.Author.Rules.{rules}
 use mathlib.Core.Path.{◌≡◌, sym, ap₂, ◌∙◌}
 use mathlib.Core.Bool.{◌||◌}
 use native.Mathlib.Omega.{arith}
 use lib.IntN.{◌*ℤ◌}
-use lib.ListN.{take}
 use mir.Syntax.{w16, w64}
 use mir.Val.{to_z, of_z}
 use mir.Facts.{to_z-of_z}
 use Rattle.lists.specs.Lists.{at}
 use Rattle.lists.proofs.Signed.{back}
 use Rattle.synthesis.proofs.Halves.{sub_fits}
-use Rattle.synthesis.proofs.Taps.{ago_take, Summed, summed_none, summed_more, summed_left, summed_done}
+use Rattle.synthesis.proofs.Taps.{ago_take, summed_none, summed_more, summed_left, summed_done}
 use Rattle.synthesis.proofs.whole.tested.Goals as goal
 
 pub loop-k-init : goal.loop-k-init
@@ -31,7 +30,6 @@ overflow_sub-s c =
 pub returns-then-twice_outside : goal.returns-then-twice_outside
 returns-then-twice_outside c =
     let m = c.before.before.before in
-    let l = m.before.before.before.before in
     let p = c.wide_product-p in
     let n = c.args.at in
     let k = c.loop-k.k in
@@ -43,7 +41,6 @@ returns-then-twice_outside c =
 pub loop-k-preserved : goal.loop-k-preserved
 loop-k-preserved c =
     let m = c.before.before.before in
-    let l = m.before.before.before.before in
     let p = c.wide_product-p in
     let n = c.args.at in
     let k = c.loop-k.k in

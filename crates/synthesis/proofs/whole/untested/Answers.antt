@@ -1,15 +1,14 @@
 -- `synthesis::untested` meets its contract: before tap k the half is at most 32768 times the weight so far in size, so that no number lies outside.
-use Prim.Native.Nat.{◌≤◌, ◌-◌}
+use Prim.Native.Nat.{◌-◌}
 use borrow.Author.Rules.{rules}
 use mathlib.Core.Path.{◌∙◌}
 use native.Mathlib.Omega.{arith}
-use lib.ListN.{take}
 use mir.Syntax.{w16, w32}
 use mir.Val.{to_z, of_z}
 use mir.Facts.{to_z-of_z}
 use Rattle.lists.specs.Lists.{at}
 use Rattle.lists.proofs.Signed.{back}
-use Rattle.synthesis.proofs.Taps.{ago_take, summed_done, Light, light_none, light_fits, light_more}
+use Rattle.synthesis.proofs.Taps.{ago_take, summed_done, light_none, light_fits, light_more}
 use Rattle.synthesis.proofs.whole.untested.Goals as goal
 
 pub loop-k-init : goal.loop-k-init
@@ -21,7 +20,6 @@ loop-k-init c =
 
 pub overflow_sub-s : goal.overflow_sub-s
 overflow_sub-s c =
-    let l = c.before.before.before.before in
     let k = c.loop-k.k in
     let p = c.product-s-in-loop-k in
     let y = at c.args.buf.now (c.args.at - k) in
@@ -32,7 +30,6 @@ overflow_sub-s c =
 
 pub loop-k-preserved : goal.loop-k-preserved
 loop-k-preserved c =
-    let l = c.before.before.before.before in
     let k = c.loop-k.k in
     let p = c.product-s-in-loop-k in
     let y = at c.args.buf.now (c.args.at - k) in
