@@ -1,4 +1,4 @@
--- The basic operators of 3GPP TS 26.073 (basic_op, oper_32b), over the integers, under the standard's names with `-` for `_`.
+-- The basic operators of 3GPP TS 26.073 (basic_op, oper_32b), over the integers, under the standard's names in lower case.
 -- A number of 16 or 32 bits is an integer here: `pos n` is n and `negsuc n` is -(n + 1). `clamp` is the standard's saturation.
 use Rattle.std.specs.Prelude.{cond, List, map, ℕ, zero, suc, ◌-◌, ◌*◌, ◌%◌, ◌^◌, ltb, ℤ, pos, negsuc, ◌+ℤ◌, ◌-ℤ◌, ◌*ℤ◌}
 use Rattle.std.specs.Int.Signed.{lt_z, le_z, shr_z}
