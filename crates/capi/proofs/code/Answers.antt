@@ -1,5 +1,4 @@
 -- `code` meets its contract: number and place are low, so their sum fits.
-use borrow.Author.Rules.{rules}
 use native.Mathlib.Omega.{arith}
 use Prim.Native.Nat.{◌<◌}
 use Rattle.outcome.proofs.Variants.{number_low}

@@ -1,5 +1,4 @@
 -- `capi::mr74_read` meets its contract: what does not fit is left; else the reader's state and note are given, and the place is low enough for the code.
-use borrow.Author.Rules.{rules}
 use mathlib.Core.Path.{refl}
 use Rattle.capi.proofs.Codes.{read_place}
 use Rattle.capi.proofs.Calls.{read_unfit, read_given}

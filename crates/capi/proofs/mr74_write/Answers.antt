@@ -1,5 +1,4 @@
 -- `capi::mr74_write` meets its contract: a state of another length leaves the bytes; else it is read and its record written, and the place is low enough for the code.
-use borrow.Author.Rules.{rules}
 use mathlib.Core.Path.{ap}
 use Rattle.record.specs.Record.{WriteResult}
 use Rattle.capi.proofs.Codes.{write_place}

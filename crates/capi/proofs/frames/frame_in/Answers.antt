@@ -1,5 +1,4 @@
 -- `capi::frame_in` meets its contract: the numbers that `sheet_in` gives are lent to the frame call.
-use borrow.Author.Rules.{rules}
 use native.Mathlib.Omega.{arith}
 use mathlib.Core.Path.{◌≡◌, ap, ◌∙◌}
 use mathlib.Core.List.{List}

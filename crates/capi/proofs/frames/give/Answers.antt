@@ -1,5 +1,4 @@
 -- `capi::give` meets its contract: state, rows, places and code are each written as its function says.
-use borrow.Author.Rules.{rules}
 use Rattle.capi.proofs.frames.give.Goals as goal
 
 pub returns : goal.returns

@@ -1,11 +1,9 @@
 -- `capi::write_places` meets its contract: after i turns the first i bytes are the places.
 use Prim.Native.Nat.{◌-◌, ◌≤◌}
-use native.Mathlib.Omega.{arith}
-use mathlib.Core.Path.{◌≡◌, refl, sym, ◌∙◌}
-use borrow.Author.Rules.{rules}
+use mathlib.Core.Path.{◌≡◌}
 use lib.ListN.{length}
 use Rattle.capi.specs.Capi.{places_length}
-use Rattle.capi.proofs.Buffers.{Copied, copied_none, copied_more, copied_done}
+use Rattle.capi.proofs.Buffers.{Copied}
 use Rattle.capi.proofs.frames.write_places.Given as goal
 
 abbrev pub invariant-loop-i : goal.invariant-loop-i
