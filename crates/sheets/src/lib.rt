@@ -108,3 +108,71 @@ pub fn decode_bytes(bytes: &[u8], state: State) -> Decoded
     let answer = mr74::frame(&sheet, state, &mut samples);
     Decoded { answer, samples }
 }
+
+#[cfg(test)]
+mod tests {
+    use super::*;
+    use std::io::ErrorKind;
+    use std::test::Fail;
+
+    // Gives 7, 8 and 9, one at a read, and then it fails, or ends.
+    #[derive(Drop)]
+    struct Slow {
+        given: u8,
+        fails: bool,
+    }
+
+    impl Read for Slow {
+        fn read(&mut self, buf: &mut [u8]) -> io::Result<usize> {
+            if buf.is_empty() {
+                return Ok(0);
+            }
+            if self.given < 3 {
+                buf[0] = 7 + self.given;
+                self.given += 1;
+                return Ok(1);
+            }
+            if self.fails {
+                return Err(io::Error::from(ErrorKind::ConnectionReset));
+            }
+            Ok(0)
+        }
+    }
+
+    #[test]
+    fn joins_short_reads(rt: HostRuntime) -> Result<(), Fail> {
+        let mut input = Slow {
+            given: 0,
+            fails: false,
+        };
+        let mut bytes = [0u8; 2];
+        assert_eq!(rt; read_full(&mut input, &mut bytes)?, 2);
+        assert_eq!(rt; bytes, [7, 8]);
+        let mut more = [0u8; 5];
+        assert_eq!(rt; read_full(&mut input, &mut more)?, 1);
+        assert_eq!(rt; more, [9, 0, 0, 0, 0]);
+        Ok(())
+    }
+
+    #[test]
+    fn leaves_what_follows(rt: HostRuntime) -> Result<(), Fail> {
+        let mut input: &[u8] = &[1, 2, 3, 4, 5];
+        let mut bytes = [0u8; 3];
+        assert_eq!(rt; read_sheet(&mut input, &mut bytes)?, 3);
+        assert_eq!(rt; bytes, [1, 2, 3]);
+        assert_eq!(rt; input.len(), 2);
+        Ok(())
+    }
+
+    // No sheet is cut by it.
+    #[test]
+    fn tells_a_failed_read(rt: HostRuntime) {
+        let mut input = Slow {
+            given: 0,
+            fails: true,
+        };
+        let mut bytes = [0u8; SHEET_BYTES];
+        let read = read_sheet(&mut input, &mut bytes);
+        assert!(rt; read.is_err());
+    }
+}
