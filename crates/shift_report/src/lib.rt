@@ -1,5 +1,6 @@
 // The shift report, whole: what its code is proved equal to. The crate has definitions and theorems, and no function.
 #![tactic(auto)]
+
 use state::State;
 
 // Accepted and refused sheets; of the accepted ones retried subframes, squares of the samples, and peaks.
