@@ -1,6 +1,6 @@
 -- The report's steps, one for each sheet that it reads, what they come to together, and the widths of the sums that they carry.
 -- The theorems are `step_totals`, `steps_report` (proofs/Steps.antt) and `totals_bounded`, `totals_within` (proofs/Widths.antt).
-use Rattle.std.specs.Prelude.{◌≡◌, Bool, true, false, cond, List, [], ◌∷◌, ◌++◌, ℕ, zero, suc, ◌+◌, ◌*◌, ◌^◌, ◌<◌, ◌≤◌, eqb, ℤ, nat_abs, ◌+ℤ◌, length, take, drop}
+use Rattle.std.specs.Prelude.{◌≡◌, Bool, true, false, cond, List, [], ◌∷◌, ◌++◌, ℕ, zero, suc, ◌+◌, ◌*◌, ◌^◌, ◌<◌, ◌≤◌, eqb, nat_abs, ◌+ℤ◌, length, take, drop}
 use Rattle.state.specs.declared.State.{State}
 use Rattle.state.specs.State.{WellFormed}
 use Rattle.mr74.specs.Frame.{Trace}

@@ -1,6 +1,5 @@
 -- `bench_output::answer_line` meets its contract: by the outcome, the line of the frame with its peak or that of the refusal.
 use mathlib.Core.Path.{sym, ◌∙◌}
-use borrow.Author.Rules.{rules}
 use lib.ListN.{take}
 use mir.Syntax.{w32}
 use Rattle.lists.proofs.Signed.{back}

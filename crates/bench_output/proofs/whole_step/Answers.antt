@@ -1,5 +1,4 @@
 -- `bench_output::whole_step` meets its contract: the line is that of the sheet's call, and the state the one that the call gives back.
-use borrow.Author.Rules.{rules}
 use lib.ListN.{take}
 use Rattle.mr74.specs.Frame.{call_result}
 use Rattle.bench_output.proofs.Answers.{step_whole}

@@ -2,7 +2,6 @@
 use Prim.Native.Nat.{ℕ}
 use mathlib.Core.Path.{ap, ◌∙◌}
 use mathlib.Core.List.{List}
-use borrow.Author.Rules.{rules}
 use lib.ListN.{take}
 use Rattle.sheets.specs.Sheets.{opening_step}
 use Rattle.shift_report.specs.Totals.{totals_of}

@@ -3,7 +3,7 @@ use Prim.Native.Nat.{ℕ, ◌+◌, ◌-◌}
 use mathlib.Core.Path.{◌≡◌}
 use borrow.Author.Rules.{rules}
 use native.Mathlib.Omega.{arith}
-use Rattle.totals.proofs.Runs.{Running, running_none, running_more, running_short, running_full}
+use Rattle.totals.proofs.Runs.{running_none, running_more, running_short, running_full}
 use Rattle.totals.proofs.run.Goals as goal
 
 pub loop-number-init : goal.loop-number-init

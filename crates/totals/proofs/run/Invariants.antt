@@ -1,9 +1,6 @@
 -- `totals::run` meets its contract: at each turn the loop's totals from here are those of all the sheets.
-use Prim.Native.Nat.{ℕ, ◌+◌, ◌-◌}
-use mathlib.Core.Path.{◌≡◌}
-use borrow.Author.Rules.{rules}
-use native.Mathlib.Omega.{arith}
-use Rattle.totals.proofs.Runs.{Running, running_none, running_more, running_short, running_full}
+use Prim.Native.Nat.{◌-◌}
+use Rattle.totals.proofs.Runs.{Running}
 use Rattle.totals.proofs.run.Given as goal
 
 abbrev pub invariant-loop-number : goal.invariant-loop-number

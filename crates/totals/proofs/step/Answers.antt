@@ -1,5 +1,4 @@
 -- `totals::step` meets its contract: by the count of bytes, the frame call of the sheet is added, or the sums stay.
-use borrow.Author.Rules.{rules}
 use mathlib.Core.Path.{sym}
 use mathlib.Core.Bool.{true, false}
 use Rattle.shift_report.specs.Steps.{totals_step}

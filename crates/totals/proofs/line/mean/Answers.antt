@@ -1,5 +1,4 @@
 -- `totals::mean` meets its contract: what is divided is not negative, and fits 32 bits as the quotient does.
-use borrow.Author.Rules.{rules}
 use lib.IntN.{pos}
 use lib.Signed.{◌≤ℤ◌}
 use mir.Syntax.{w32, w64}

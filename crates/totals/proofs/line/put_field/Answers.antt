@@ -1,6 +1,5 @@
 -- `totals::put_field` meets its contract: the digits, at most 20, and a space after them.
 use native.Mathlib.Omega.{arith}
-use borrow.Author.Rules.{rules}
 use mathlib.Core.List.{[], ◌∷◌}
 use Rattle.lines.specs.Lines.{decimal, space}
 use Rattle.lines.proofs.Puts.{put_then}

@@ -1,7 +1,6 @@
 -- `totals::put_mean` meets its contract: by the count, the word `none` or the integer that `mean` gives.
 use mathlib.Core.Path.{ap, ◌∙◌}
 use native.Mathlib.Omega.{arith}
-use borrow.Author.Rules.{rules}
 use lib.IntN.{ℤ}
 use mir.Syntax.{w32}
 use mir.Facts.{to_z-of_z}

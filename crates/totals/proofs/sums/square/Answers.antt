@@ -4,7 +4,6 @@ use lib.IntN.{ℤ, ◌*ℤ◌}
 use mir.Syntax.{w16, w32, w64}
 use mir.Val.{SFits, to_z, of_z}
 use mir.Facts.{to_z-of_z}
-use Rattle.basicop.proofs.Calls.{rules_ℤ}
 use Rattle.basicop.proofs.Range.{cast_asks, nat_abs_mul, widened}
 use Rattle.shift_report.proofs.Squares.{square_most}
 use Rattle.totals.proofs.Squares.{square_fits, square_from}

@@ -1,15 +1,14 @@
 -- `totals::square_sum` meets its contract: at each turn what is left to add gives the whole, and i squares come to at most i × 2 ^ 30.
-use Prim.Native.Nat.{ℕ, ◌≤◌, ◌+◌, ◌-◌, ◌*◌, ◌^◌}
+use Prim.Native.Nat.{ℕ, ◌+◌}
 use mathlib.Core.Path.{refl, ap, ◌∙◌}
-use mathlib.Core.List.{foldl}
 use native.Mathlib.Omega.{arith}
 use borrow.Author.Rules.{rules}
 use mir.Syntax.{w16}
 use Rattle.lists.specs.Lists.{at}
 use Rattle.lists.proofs.Signed.{back}
-use Rattle.lists.proofs.Fold.{Folding, fold_none, fold_more, fold_done}
+use Rattle.lists.proofs.Fold.{fold_none, fold_more, fold_done}
 use Rattle.shift_report.specs.Totals.{square}
-use Rattle.totals.proofs.Squares.{add_square, squares_folded}
+use Rattle.totals.proofs.Squares.{squares_folded}
 use Rattle.totals.proofs.sums.square_sum.Goals as goal
 
 pub loop-i-init : goal.loop-i-init

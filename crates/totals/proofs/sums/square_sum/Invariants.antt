@@ -1,15 +1,8 @@
 -- `totals::square_sum` meets its contract: at each turn what is left to add gives the whole, and i squares come to at most i × 2 ^ 30.
-use Prim.Native.Nat.{ℕ, ◌≤◌, ◌+◌, ◌-◌, ◌*◌, ◌^◌}
-use mathlib.Core.Path.{refl, ap, ◌∙◌}
+use Prim.Native.Nat.{◌≤◌, ◌-◌, ◌*◌, ◌^◌}
 use mathlib.Core.List.{foldl}
-use native.Mathlib.Omega.{arith}
-use borrow.Author.Rules.{rules}
-use mir.Syntax.{w16}
-use Rattle.lists.specs.Lists.{at}
-use Rattle.lists.proofs.Signed.{back}
-use Rattle.lists.proofs.Fold.{Folding, fold_none, fold_more, fold_done}
-use Rattle.shift_report.specs.Totals.{square}
-use Rattle.totals.proofs.Squares.{add_square, squares_folded}
+use Rattle.lists.proofs.Fold.{Folding}
+use Rattle.totals.proofs.Squares.{add_square}
 use Rattle.totals.proofs.sums.square_sum.Given as goal
 
 abbrev pub invariant-loop-i : goal.invariant-loop-i
