@@ -25,7 +25,7 @@ use Rattle.applied.proofs.Concrete.{with_well_formed, bytes_by}
 use Rattle.applied.proofs.Examples.{example}
 use Rattle.applied.proofs.Calls.{calls_applied}
 
--- ---- read-back
+-- ---- read_back
 written : encoded silent ≡ silent_record
 unfolding encoded bytes_of numbers_of core_numbers post_numbers silent state_of core_of post_of silent_record
 written = refl

@@ -11,14 +11,14 @@ abbrev pub between : State
 between = state_after silent (call ∷ [])
 
 pub record CallsApplied : Type 0 where
-  -- next-refused
+  -- next_refused
   pub refused : next_state silent empty_call ≡ silent
-  -- next-well-formed, next-accepted
+  -- next_well_formed, next_accepted
   pub next_well_formed : WellFormed (next_state silent call)
   pub next_accepted : state_outcome (next_state silent call) ≡ Accepted
-  -- list-well-formed, list-accepted
+  -- list_well_formed, list_accepted
   pub list_well_formed : WellFormed (state_after silent calls)
   pub list_accepted : state_outcome (state_after silent calls) ≡ Accepted
-  -- run-append, after-append: the two calls are the first, and then the second
+  -- run_append, after_append: the two calls are the first, and then the second
   pub run : run_calls silent calls ≡ run_calls silent (call ∷ []) ++ run_calls between (empty_call ∷ [])
   pub after : state_after silent calls ≡ state_after between (empty_call ∷ [])

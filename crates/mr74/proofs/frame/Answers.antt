@@ -1,4 +1,4 @@
--- The checks, then the frame or the refusal: answer-accepted, answer-refused. What the checks have shown makes the sheet's inputs usable.
+-- The checks, then the frame or the refusal: answer_accepted, answer_refused. What the checks have shown makes the sheet's inputs usable.
 use mathlib.Core.Path.{◌≡◌, ap, sym, ◌∙◌}
 use native.Mathlib.Omega.{arith}
 use borrow.Author.Rules.{rules}

@@ -1,4 +1,4 @@
--- `pitch::fraction_of` meets its contract: for every byte the thirds are given by the rest by 3: thirds-is.
+-- `pitch::fraction_of` meets its contract: for every byte the thirds are given by the rest by 3: thirds_is.
 use mathlib.Core.Path.{◌≡◌, sym, ◌∙◌}
 use Prim.Native.Nat.{ℕ, ◌%◌, ◌<◌}
 use borrow.Author.Tests.{ne_eqb}

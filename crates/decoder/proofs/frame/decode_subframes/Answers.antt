@@ -1,4 +1,4 @@
--- The four subframes are those of the list: results-are, from the four steps and the samples joined.
+-- The four subframes are those of the list: results_are, from the four steps and the samples joined.
 use Rattle.decoder.proofs.Subframes.{results_are}
 use Rattle.decoder.proofs.frame.decode_subframes.Goals as goal
 

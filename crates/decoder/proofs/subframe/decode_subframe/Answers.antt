@@ -1,4 +1,4 @@
--- The subframe step, from excitation, synthesis, sharpening and history: subframe-is.
+-- The subframe step, from excitation, synthesis, sharpening and history: subframe_is.
 use Rattle.decoder.proofs.Subframes.{subframe_is}
 use Rattle.decoder.proofs.subframe.decode_subframe.Goals as goal
 

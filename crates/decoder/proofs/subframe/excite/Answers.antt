@@ -1,4 +1,4 @@
--- Feedback and first excitation, from prediction, sharpened innovation and gains: excitations-are.
+-- Feedback and first excitation, from prediction, sharpened innovation and gains: excitations_are.
 use Rattle.basicop.proofs.Ints.{arith_ℤ}
 use Rattle.decoder.proofs.Subframes.{excitations_are}
 use Rattle.decoder.proofs.subframe.excite.Goals as goal

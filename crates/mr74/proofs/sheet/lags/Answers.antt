@@ -1,4 +1,4 @@
--- The lags of two subframes, from their indices, which fit a byte: lags-are.
+-- The lags of two subframes, from their indices, which fit a byte: lags_are.
 use lib.Dec.{lit≤}
 use mathlib.Core.Path.{◌∙◌}
 use mir.Facts.{to_z-of_z}

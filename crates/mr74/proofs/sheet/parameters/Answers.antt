@@ -1,4 +1,4 @@
--- `parameters` meets its contract: gains and innovation are read at their places in the sheet, and the lag is passed on: parameters-are.
+-- `parameters` meets its contract: gains and innovation are read at their places in the sheet, and the lag is passed on: parameters_are.
 use Prim.Native.Nat.{◌+◌, ◌*◌}
 use mir.Syntax.{w16}
 use Rattle.lists.specs.Lists.{at}

@@ -1,4 +1,4 @@
--- `PitchLag::from_absolute` meets its contract: below 197 the lag is in thirds, from 197 on whole: absolute-below, absolute-from.
+-- `PitchLag::from_absolute` meets its contract: below 197 the lag is in thirds, from 197 on whole: absolute_below, absolute_from.
 use mathlib.Core.Path.{refl, sym, ◌∙◌}
 use Rattle.pitch.proofs.Lags.{lag_eq, absolute_below, absolute_from}
 use Rattle.pitch.proofs.PitchLag.from_absolute.Goals as goal

@@ -1,4 +1,4 @@
--- `PitchLag::from_relative` meets its contract: the least lag lies in 20..=134, so no step clamps and the product is the division by 3: relative-is.
+-- `PitchLag::from_relative` meets its contract: the least lag lies in 20..=134, so no step clamps and the product is the division by 3: relative_is.
 use mathlib.Core.Path.{◌≡◌, refl, sym, ◌∙◌}
 use Prim.Native.Nat.{ℕ, ◌≤◌}
 use native.Mathlib.Omega.{arith}
