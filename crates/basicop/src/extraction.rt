@@ -22,7 +22,8 @@ pub fn extract_l(x: i32) -> i16
     ensures { result ≡ extract_l x }
 {
     let u = residue(x);
-    if u < 32768 {
+    let low = u < 32768;
+    if low {
         return u as i16;
     }
     (u - 65536) as i16

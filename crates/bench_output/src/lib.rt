@@ -58,7 +58,8 @@ pub fn step(line: &mut [u8], number: u64, bytes: &[u8], state: State) -> Step
             more: false,
         };
     }
-    if bytes.len() == SHEET_BYTES {
+    let whole = bytes.len() == SHEET_BYTES;
+    if whole {
         return whole_step(line, number, bytes, state);
     }
     let count = lines::cut_line(line, number);

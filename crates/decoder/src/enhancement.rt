@@ -27,7 +27,8 @@ pub fn first_excitation(adaptive: [i16; 40], pitch: Q14, feedback: [i16; 40]) ->
     ensures { result ≡ (first_excitation adaptive pitch.0 feedback).value }
 {
     let doubled = basicop::doubled(excitation::next_sharpening(pitch));
-    if 16384 < doubled.0 {
+    let strong = 16384 < doubled.0;
+    if strong {
         return energy::match_energy(feedback, enhanced(feedback, adaptive, doubled, pitch));
     }
     feedback

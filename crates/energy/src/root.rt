@@ -27,7 +27,8 @@ fn normalized(value: i32, normalization: u32) -> i32
     ensures { result ≡ root_scaled value (pos normalization) }
 {
     let shifted = l_shl(value, normalization as i16);
-    if (30 - normalization) % 2 == 0 {
+    let even = (30 - normalization) % 2 == 0;
+    if even {
         return shifted >> 1;
     }
     shifted

@@ -28,7 +28,8 @@ pub fn energy(samples: [i16; 40]) -> i32
     ensures { result ≡ energy samples }
 {
     let sum = squares(&samples);
-    if 2147483646 < sum {
+    let at_limit = 2147483646 < sum;
+    if at_limit {
         let mut quartered = samples;
         quarter(&mut quartered);
         return squares(&quartered);

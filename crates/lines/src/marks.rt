@@ -7,7 +7,8 @@ use crate::fields::magnitude;
 fn larger(a: i32, b: i32) -> i32
     ensures { result ≡ larger a b }
 {
-    if a < b { b } else { a }
+    let less = a < b;
+    if less { b } else { a }
 }
 
 // The largest distance from zero among the samples: of -32768 it is 32768.
@@ -31,7 +32,8 @@ fn any(flags: [bool; 4]) -> bool
 pub fn mark(peak: i32, flags: [bool; 4]) -> u8
     ensures { result ≡ mark_of peak flags }
 {
-    if peak < 32760 {
+    let quiet = peak < 32760;
+    if quiet {
         if any(flags) { b'R' } else { b'-' }
     } else {
         b'L'

@@ -98,7 +98,8 @@ pub fn first_outside(numbers: &[i16], limits: &[i16]) -> usize
     let mut i = 0;
     while i < numbers.len() {
         let number = numbers[i];
-        if number < 0 {
+        let negative = number < 0;
+        if negative {
             return i;
         }
         let limit = limits[i];

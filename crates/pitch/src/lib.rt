@@ -36,7 +36,8 @@ fn fraction_of(index: u8) -> Fraction
     ensures { thirds_of result ≡ (relative (pos index) (pos 0)).thirds }
 {
     let rest = index % 3;
-    if rest == 0 {
+    let third = rest == 0;
+    if third {
         return Fraction::PlusThird;
     }
     if rest == 1 {

@@ -12,7 +12,8 @@ use state::State;
 fn check_size(size: usize) -> Outcome
     ensures { result ≡ first_met (size_checks size) }
 {
-    if size < TRAILER_BYTES {
+    let short = size < TRAILER_BYTES;
+    if short {
         return Outcome::RecordShort;
     }
     Outcome::Accepted
@@ -23,19 +24,24 @@ fn check_trailer(t: &[u8]) -> Outcome
     requires { length t.now ≡ 8 }
     ensures { result ≡ first_met (trailer_checks t.now) }
 {
-    if t[0] != 0x4D {
+    let other_first = t[0] != 0x4D;
+    if other_first {
         return Outcome::Tag;
     }
-    if t[1] != 0x37 {
+    let other_second = t[1] != 0x37;
+    if other_second {
         return Outcome::Tag;
     }
-    if coding::unsigned(t[2], t[3]) != VERSION {
+    let other_version = coding::unsigned(t[2], t[3]) != VERSION;
+    if other_version {
         return Outcome::Version;
     }
-    if coding::unsigned(t[4], t[5]) != DISTANCE {
+    let other_distance = coding::unsigned(t[4], t[5]) != DISTANCE;
+    if other_distance {
         return Outcome::Layout;
     }
-    if coding::unsigned(t[6], t[7]) != COUNT {
+    let other_count = coding::unsigned(t[6], t[7]) != COUNT;
+    if other_count {
         return Outcome::Layout;
     }
     Outcome::Accepted

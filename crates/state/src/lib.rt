@@ -39,13 +39,15 @@ pub fn check_state(state: State) -> Outcome
     if sharp < 0 {
         return Outcome::Sharpening;
     }
-    if 13017 < sharp {
+    let above = 13017 < sharp;
+    if above {
         return Outcome::Sharpening;
     }
     let post = state.post;
     let gain = post.gain;
     let smooth = gain.previous_gain;
-    if smooth < 0 {
+    let below = smooth < 0;
+    if below {
         return Outcome::SmoothedGain;
     }
     Outcome::Accepted

@@ -28,7 +28,8 @@ pub fn step(totals: Totals, bytes: &[u8], state: State) -> TotalsStep
     ensures bounded { Bounded result.totals }
     ensures counted { sheets_counted result.totals ≤ sheets_counted totals + 1 }
 {
-    if bytes.len() == SHEET_BYTES {
+    let whole = bytes.len() == SHEET_BYTES;
+    if whole {
         let decoded = sheets::decode_bytes(bytes, state);
         let answer = decoded.answer;
         let outcome = answer.outcome;

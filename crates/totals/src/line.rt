@@ -24,7 +24,8 @@ fn put_mean(out: &mut [u8], at: usize, sum: i32, count: u64) -> usize
     ensures put { Put out.old at (mean_field sum count) result out.new }
     ensures within { result ≤ at + 21 }
 {
-    if count == 0 {
+    let none = count == 0;
+    if none {
         return lines::put(out, at, b"none");
     }
     lines::put_integer(out, at, mean(sum, count))

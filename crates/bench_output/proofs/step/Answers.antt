@@ -9,4 +9,4 @@ returns-then-bytes-eq0 c = record { step = step_none c.args.number c.args.state 
 
 pub returns : goal.returns
 returns c =
-    record { step = step_cut c.args.number c.args.state c.args.bytes.now (take c.cut_line-count.result c.cut_line-count.new.out) c.if-bytes-eq0.false c.if-bytes-eq-SHEET_BYTES.false c.cut_line-count.ensures.line; within = c.cut_line-count.ensures.within }
+    record { step = step_cut c.args.number c.args.state c.args.bytes.now (take c.cut_line-count.result c.cut_line-count.new.out) c.if-bytes-eq0.false c.if-whole.false c.cut_line-count.ensures.line; within = c.cut_line-count.ensures.within }

@@ -16,11 +16,11 @@ here c = at c.args.numbers.now c.loop-i.i
 most : (c : At-loop-i) → ℤ
 most c = at c.args.limits.now c.loop-i.i
 
-pub returns-then-number-lt0 : goal.returns-then-number-lt0
+pub returns-then-negative : goal.returns-then-negative
 unfolding here most
-returns-then-number-lt0 c =
+returns-then-negative c =
     let l = c.before.before.before in
-    search_found c.loop-i.invariant.1 (below (most l) (here l) (rw (back w16 {z = here l} c.number-1.given) at c.if-number-lt0.true)) (search rules) (search rules)
+    search_found c.loop-i.invariant.1 (below (most l) (here l) (rw (back w16 {z = here l} c.number-1.given) at c.if-negative.true)) (search rules) (search rules)
 
 pub returns-then-limit-number : goal.returns-then-limit-number
 unfolding here most
@@ -28,7 +28,7 @@ returns-then-limit-number c =
     let n = c.before.before.before in
     let l = n.before.before in
     let e = back w16 {z = here l} c.number-1.given in
-    search_found c.loop-i.invariant.1 (above (most l) (here l) (rw e at c.if-number-lt0.false) (rw (back w16 {z = most l} c.limit-1.given, e) at c.if-limit-number.true)) (search rules) (search rules)
+    search_found c.loop-i.invariant.1 (above (most l) (here l) (rw e at c.if-negative.false) (rw (back w16 {z = most l} c.limit-1.given, e) at c.if-limit-number.true)) (search rules) (search rules)
 
 pub loop-i-preserved : goal.loop-i-preserved
 unfolding here most
@@ -36,7 +36,7 @@ loop-i-preserved c =
     let n = c.before.before.before in
     let l = n.before.before in
     let e = back w16 {z = here l} c.number-1.given in
-    (search rules, search_more c.loop-i.invariant.1 (inside (most l) (here l) (rw e at c.if-number-lt0.false) (rw (back w16 {z = most l} c.limit-1.given, e) at c.if-limit-number.false)) (search rules) (search rules))
+    (search rules, search_more c.loop-i.invariant.1 (inside (most l) (here l) (rw e at c.if-negative.false) (rw (back w16 {z = most l} c.limit-1.given, e) at c.if-limit-number.false)) (search rules) (search rules))
 
 pub returns : goal.returns
 returns c = search_done c.loop-i.invariant.1 (omega (arith, c.loop-i.invariant.0))

@@ -16,11 +16,11 @@ one n h e = sym (thirds_is n h ∙ rw e)
 two : (n : ℕ) → n < 256 → (n % 3 ≡ 0 → ⊥) → (n % 3 ≡ 1 → ⊥) → pos 0 ≡ (relative (pos n) (pos 0)).thirds
 two n h e f = sym (thirds_is n h ∙ rw (ne_eqb (n % 3) 0 e, ne_eqb (n % 3) 1 f))
 
-pub returns-then-rest-eq0 : goal.returns-then-rest-eq0
-returns-then-rest-eq0 c = none _ c.ranges.index.fits c.if-rest-eq0.true
+pub returns-then-third : goal.returns-then-third
+returns-then-third c = none _ c.ranges.index.fits c.if-third.true
 
 pub returns-then-rest-eq1 : goal.returns-then-rest-eq1
 returns-then-rest-eq1 c = one _ c.ranges.index.fits c.if-rest-eq1.true
 
 pub returns : goal.returns
-returns c = two _ c.ranges.index.fits c.if-rest-eq0.false c.if-rest-eq1.false
+returns c = two _ c.ranges.index.fits c.if-third.false c.if-rest-eq1.false

@@ -24,19 +24,19 @@ smooth c =
 pub returns-then-sharp-lt0 : goal.returns-then-sharp-lt0
 returns-then-sharp-lt0 c = met _ _ _ (rw (rw (sharp c.before) at c.if-sharp-lt0.true))
 
-pub returns-then-sharp-gt13017 : goal.returns-then-sharp-gt13017
-returns-then-sharp-gt13017 c =
+pub returns-then-above : goal.returns-then-above
+returns-then-above c =
     let e = sharp c.before.before in
-    met _ _ _ (rw (rw e at c.if-sharp-lt0.false, rw e at c.if-sharp-gt13017.true))
+    met _ _ _ (rw (rw e at c.if-sharp-lt0.false, rw e at c.if-above.true))
 
-pub returns-then-smooth-lt0 : goal.returns-then-smooth-lt0
-returns-then-smooth-lt0 c =
+pub returns-then-below : goal.returns-then-below
+returns-then-below c =
     let p = c.before.before.before.before in
     let e = sharp p.before.before in
-    met _ _ _ (rw (smooth c.before) at c.if-smooth-lt0.true) ∙ unmet _ _ _ (rw (rw e at c.if-sharp-lt0.false, rw e at c.if-sharp-gt13017.false))
+    met _ _ _ (rw (smooth c.before) at c.if-below.true) ∙ unmet _ _ _ (rw (rw e at c.if-sharp-lt0.false, rw e at c.if-above.false))
 
 pub returns : goal.returns
 returns c =
     let p = c.before.before.before.before in
     let e = sharp p.before.before in
-    none_left ∙ unmet _ _ _ (rw (smooth c.before) at c.if-smooth-lt0.false) ∙ unmet _ _ _ (rw (rw e at c.if-sharp-lt0.false, rw e at c.if-sharp-gt13017.false))
+    none_left ∙ unmet _ _ _ (rw (smooth c.before) at c.if-below.false) ∙ unmet _ _ _ (rw (rw e at c.if-sharp-lt0.false, rw e at c.if-above.false))

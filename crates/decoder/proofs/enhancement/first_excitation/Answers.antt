@@ -29,15 +29,15 @@ module _ (v : List ℤ) (pitch : ℤ) (exc : List ℤ) {g : ℤ} (e : g ≡ shl 
 doubled_is : (c : After-doubled-doubled) → c.doubled-doubled.result.0 ≡ shl (sharpening c.args.pitch.0) (pos 1)
 doubled_is c = c.doubled-doubled.ensures ∙ ap (λ (z : ℤ). shl z (pos 1)) c.next_sharpening.ensures
 
-pub returns-then-doubled-gt16384 : goal.returns-then-doubled-gt16384
-returns-then-doubled-gt16384 c =
+pub returns-then-strong : goal.returns-then-strong
+returns-then-strong c =
     let d = c.before.before.before.before.before in
     let f : SFits w16 c.doubled-doubled.result.0 = search rules in
     c.match_energy.ensures
-    ∙ rw c.enhanced.ensures (above c.args.adaptive c.args.pitch.0 c.args.feedback (doubled_is d) (rw (to_z-of_z f) at c.if-doubled-gt16384.true))
+    ∙ rw c.enhanced.ensures (above c.args.adaptive c.args.pitch.0 c.args.feedback (doubled_is d) (rw (to_z-of_z f) at c.if-strong.true))
 
 pub returns : goal.returns
 returns c =
     let d = c.before.before.before in
     let f : SFits w16 c.doubled-doubled.result.0 = search rules in
-    within c.args.adaptive c.args.pitch.0 c.args.feedback (doubled_is d) (rw (to_z-of_z f) at c.if-doubled-gt16384.false)
+    within c.args.adaptive c.args.pitch.0 c.args.feedback (doubled_is d) (rw (to_z-of_z f) at c.if-strong.false)

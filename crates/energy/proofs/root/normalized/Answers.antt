@@ -15,10 +15,10 @@ shifted : (c : After-l_shl-shifted) → c.l_shl-shifted.result ≡ l_shl c.args.
 shifted c =
     c.l_shl-shifted.ensures ∙ rw (to_z-of_z c.ranges.value, to_z_pos w16 {n = c.args.normalization} (omega arith)) refl
 
-pub returns-then-normalization-eq0 : goal.returns-then-normalization-eq0
-returns-then-normalization-eq0 c =
-    shift_back w32 1 c.l_shl-shifted.type_inv (shifted c.before) ∙ scaled_even c.args.value c.args.normalization c.requires c.if-normalization-eq0.true
+pub returns-then-even : goal.returns-then-even
+returns-then-even c =
+    shift_back w32 1 c.l_shl-shifted.type_inv (shifted c.before) ∙ scaled_even c.args.value c.args.normalization c.requires c.if-even.true
 
 pub returns : goal.returns
 returns c =
-    got w32 c.l_shl-shifted.type_inv (shifted c.before) ∙ scaled_odd c.args.value c.args.normalization c.requires c.if-normalization-eq0.false
+    got w32 c.l_shl-shifted.type_inv (shifted c.before) ∙ scaled_odd c.args.value c.args.normalization c.requires c.if-even.false

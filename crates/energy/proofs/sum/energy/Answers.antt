@@ -8,12 +8,12 @@ use Rattle.energy.proofs.Tests.{shift_back}
 use Rattle.energy.proofs.Sums.{energy_again, energy_once}
 use Rattle.energy.proofs.sum.energy.Goals as goal
 
-pub returns-then-sum-gt2147483646 : goal.returns-then-sum-gt2147483646
-returns-then-sum-gt2147483646 c =
+pub returns-then-at_limit : goal.returns-then-at_limit
+returns-then-at_limit c =
     got w32 c.squares.type_inv (c.squares.ensures ∙ ap squares c.quarter.ensures)
-    ∙ energy_again c.args.samples (less_yes (rw (got w32 c.squares-sum.type_inv c.squares-sum.ensures) at c.if-sum-gt2147483646.true))
+    ∙ energy_again c.args.samples (less_yes (rw (got w32 c.squares-sum.type_inv c.squares-sum.ensures) at c.if-at_limit.true))
 
 pub returns : goal.returns
 returns c =
     shift_back w32 4 c.squares-sum.type_inv c.squares-sum.ensures
-    ∙ energy_once c.args.samples (less_no (rw (got w32 c.squares-sum.type_inv c.squares-sum.ensures) at c.if-sum-gt2147483646.false))
+    ∙ energy_once c.args.samples (less_no (rw (got w32 c.squares-sum.type_inv c.squares-sum.ensures) at c.if-at_limit.false))

@@ -6,12 +6,12 @@ use Rattle.lines.proofs.marks.mark.Goals as goal
 
 pub returns-then-any : goal.returns-then-any
 returns-then-any c =
-    mark_retried c.args.peak c.args.flags (rw (to_z-of_z c.ranges.peak) at c.if-peak-lt32760.true) (sym c.any.ensures ∙ c.if-any.true)
+    mark_retried c.args.peak c.args.flags (rw (to_z-of_z c.ranges.peak) at c.if-quiet.true) (sym c.any.ensures ∙ c.if-any.true)
 
 pub returns-else-any : goal.returns-else-any
 returns-else-any c =
-    mark_plain c.args.peak c.args.flags (rw (to_z-of_z c.ranges.peak) at c.if-peak-lt32760.true) (sym c.any.ensures ∙ c.if-any.false)
+    mark_plain c.args.peak c.args.flags (rw (to_z-of_z c.ranges.peak) at c.if-quiet.true) (sym c.any.ensures ∙ c.if-any.false)
 
-pub returns-else-peak-lt32760 : goal.returns-else-peak-lt32760
-returns-else-peak-lt32760 c =
-    mark_loud c.args.peak c.args.flags (rw (to_z-of_z c.ranges.peak) at c.if-peak-lt32760.false)
+pub returns-else-quiet : goal.returns-else-quiet
+returns-else-quiet c =
+    mark_loud c.args.peak c.args.flags (rw (to_z-of_z c.ranges.peak) at c.if-quiet.false)

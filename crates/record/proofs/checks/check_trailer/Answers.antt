@@ -3,25 +3,25 @@ use mathlib.Core.Path.{sym, ◌∙◌}
 use Rattle.record.proofs.Trailers.{first_differs, second_differs, version_differs, distance_differs, count_differs, trailer_passes}
 use Rattle.record.proofs.checks.check_trailer.Goals as goal
 
-pub returns-then-t-ne77 : goal.returns-then-t-ne77
-returns-then-t-ne77 c = first_differs c.args.t.now c.if-t-ne77.true
+pub returns-then-other_first : goal.returns-then-other_first
+returns-then-other_first c = first_differs c.args.t.now c.if-other_first.true
 
-pub returns-then-t-ne55 : goal.returns-then-t-ne55
-returns-then-t-ne55 c =
-    second_differs c.args.t.now c.if-t-ne77.false c.if-t-ne55.true
+pub returns-then-other_second : goal.returns-then-other_second
+returns-then-other_second c =
+    second_differs c.args.t.now c.if-other_first.false c.if-other_second.true
 
-pub returns-then-unsigned-ne-VERSION : goal.returns-then-unsigned-ne-VERSION
-returns-then-unsigned-ne-VERSION c =
-    version_differs c.args.t.now c.if-t-ne77.false c.if-t-ne55.false (λ e. c.if-unsigned-ne-VERSION.true (c.unsigned.ensures ∙ e))
+pub returns-then-other_version : goal.returns-then-other_version
+returns-then-other_version c =
+    version_differs c.args.t.now c.if-other_first.false c.if-other_second.false (λ e. c.if-other_version.true (c.unsigned-other_version.ensures ∙ e))
 
-pub returns-then-unsigned-ne-DISTANCE : goal.returns-then-unsigned-ne-DISTANCE
-returns-then-unsigned-ne-DISTANCE c =
-    distance_differs c.args.t.now c.if-t-ne77.false c.if-t-ne55.false (sym c.unsigned.ensures ∙ c.if-unsigned-ne-VERSION.false) (λ e. c.if-unsigned-ne-DISTANCE.true (c.unsigned-2.ensures ∙ e))
+pub returns-then-other_distance : goal.returns-then-other_distance
+returns-then-other_distance c =
+    distance_differs c.args.t.now c.if-other_first.false c.if-other_second.false (sym c.unsigned-other_version.ensures ∙ c.if-other_version.false) (λ e. c.if-other_distance.true (c.unsigned-other_distance.ensures ∙ e))
 
-pub returns-then-unsigned-ne-COUNT : goal.returns-then-unsigned-ne-COUNT
-returns-then-unsigned-ne-COUNT c =
-    count_differs c.args.t.now c.if-t-ne77.false c.if-t-ne55.false (sym c.unsigned.ensures ∙ c.if-unsigned-ne-VERSION.false) (sym c.unsigned-2.ensures ∙ c.if-unsigned-ne-DISTANCE.false) (λ e. c.if-unsigned-ne-COUNT.true (c.unsigned-3.ensures ∙ e))
+pub returns-then-other_count : goal.returns-then-other_count
+returns-then-other_count c =
+    count_differs c.args.t.now c.if-other_first.false c.if-other_second.false (sym c.unsigned-other_version.ensures ∙ c.if-other_version.false) (sym c.unsigned-other_distance.ensures ∙ c.if-other_distance.false) (λ e. c.if-other_count.true (c.unsigned-other_count.ensures ∙ e))
 
 pub returns : goal.returns
 returns c =
-    trailer_passes c.args.t.now c.if-t-ne77.false c.if-t-ne55.false (sym c.unsigned.ensures ∙ c.if-unsigned-ne-VERSION.false) (sym c.unsigned-2.ensures ∙ c.if-unsigned-ne-DISTANCE.false) (sym c.unsigned-3.ensures ∙ c.if-unsigned-ne-COUNT.false)
+    trailer_passes c.args.t.now c.if-other_first.false c.if-other_second.false (sym c.unsigned-other_version.ensures ∙ c.if-other_version.false) (sym c.unsigned-other_distance.ensures ∙ c.if-other_distance.false) (sym c.unsigned-other_count.ensures ∙ c.if-other_count.false)
