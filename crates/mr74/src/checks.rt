@@ -14,10 +14,12 @@ const LSF_GAP: i32 = 205;
 fn check_lengths(count: usize, numbers: usize, room: usize) -> Outcome
     ensures { result ≡ first_met (length_checks count numbers room) }
 {
-    if numbers != count {
+    let other_count = numbers != count;
+    if other_count {
         return Outcome::SheetLength;
     }
-    if room != SAMPLES {
+    let other_room = room != SAMPLES;
+    if other_room {
         return Outcome::OutputLength;
     }
     Outcome::Accepted

@@ -13,7 +13,7 @@ use Rattle.lists.proofs.Sums.{count_append, total_append, total_z_append, select
 use Rattle.mr74.specs.Frame.{Trace}
 use Rattle.calls.specs.Calls.{accepted}
 use Rattle.shift_report.specs.declared.Totals.{Totals}
-use Rattle.shift_report.specs.Totals.{accepted_count, refused_count, retried_total, square_total, peak_total, totals_of}
+use Rattle.shift_report.specs.Totals.{accepted_count, refused_count, retried_total, square_sum, square_total, peak_total, totals_of}
 use Rattle.shift_report.specs.Steps.{plus, sheets_counted}
 
 -- ---- the parts of totals
@@ -44,7 +44,7 @@ module _ (ts us : List Trace) where
 
   pub totals_append : totals_of (ts ++ us) ≡ plus (totals_of ts) (totals_of us)
   unfolding plus accepted_count refused_count retried_total square_total peak_total
-  totals_append = totals_same (totals_of (ts ++ us)) (plus (totals_of ts) (totals_of us)) (counted _) (counted _) (summed _ _) (summed _ _) (summed_z _ _)
+  totals_append = totals_same (totals_of (ts ++ us)) (plus (totals_of ts) (totals_of us)) (counted _) (counted _) (summed _ _) (summed accepted (λ (t : Trace). square_sum t.output)) (summed_z _ _)
 
 -- ---- sums
 pub zeros_plus : (a : Totals) → plus (totals_of []) a ≡ a
