@@ -8,7 +8,7 @@ use Rattle.mr74.proofs.Passed.{Passed, passed}
 use Rattle.mr74.proofs.Usable.{usable}
 use Rattle.mr74.proofs.Answers.{answer_accepted, answer_refused}
 use Rattle.mr74.proofs.frame.Goals as goal
-use Rattle.mr74.proofs.frame.Goals.{After-decode_sheet-decoded, Then-accepted}
+use Rattle.mr74.proofs.frame.Goals.{Then-accepted}
 
 -- what the checks have shown where they accept
 shown : (c : Then-accepted) → let a = c.args in Passed a.sheet.now a.state (length a.out.now)
@@ -19,11 +19,12 @@ shown c =
 pub decode_sheet-decoded-requires : goal.decode_sheet-decoded-requires
 decode_sheet-decoded-requires c = ((shown c).ready, usable (shown c))
 
-made : (c : After-decode_sheet-decoded) → length c.decode_sheet-decoded.result.samples ≡ 160
-made c = search rules
-
 pub copy-requires : goal.copy-requires
-copy-requires c = omega (arith, (shown c.before.before.before.before).lent, made c.before.before.before)
+copy-requires c =
+    let a = c.args in
+    let made : length c.decode_sheet-decoded.result.samples ≡ 160 = search rules in
+    let p = passed a.sheet.now a.state (length a.out.now) (ap is_accepted (sym c.check_frame-outcome.ensures) ∙ sym c.accepted.ensures ∙ c.if-accepted.true) in
+    omega (arith, p.lent, made)
 
 pub returns-then-accepted : goal.returns-then-accepted
 returns-then-accepted c =
@@ -36,4 +37,6 @@ returns c =
     answer_refused a.sheet.now a.state a.out.now c.check_frame-outcome.ensures (sym c.accepted.ensures ∙ c.if-accepted.false) c.refused.ensures
 
 pub slice_bounds-copy-end : goal.slice_bounds-copy-end
-slice_bounds-copy-end c = sym (made c.before.before.before)
+slice_bounds-copy-end c =
+    let made : length c.decode_sheet-decoded.result.samples ≡ 160 = search rules in
+    sym made
