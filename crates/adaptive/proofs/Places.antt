@@ -97,9 +97,6 @@ reads t f n i h l k =
     }
 
 -- the same of the code's numbers
-pub phase_range : (l : PitchLag) (f : ℕ) → pos f ≡ phase (lag_of l) → f ≤ 4
-phase_range l f e = let k : f ≡ phase_of l.fraction = cc (phase_is l) in omega (arith, phase_top l.fraction)
-
 pub start_range : (l : PitchLag) (s : ℕ) → 19 ≤ l.samples → l.samples ≤ 144 → pos s ≡ start (lag_of l) → (9 ≤ s) × (s + 10 < 154)
 start_range l s lo hi e =
     let k : s ≡ start_of l.samples l.fraction = cc (start_is l hi) in

@@ -4,8 +4,11 @@ use mathlib.Core.Bool.{Bool, not, ◌||◌}
 use Prim.Native.Nat.{ℕ, ◌+◌, ◌%◌, ◌<◌, ◌≤◌}
 use borrow.Author.Tests.{eq-eqb, lt-leb}
 use lib.Dec.{T, leb, eqb, leb→le}
-use lib.IntN.{ℤ, pos, nat_abs, ◌-ℤ◌}
+use native.Mathlib.Omega.{arith}
+use lib.IntN.{ℤ, pos, negsuc, nat_abs, ◌-ℤ◌}
 use lib.ListN.{length}
+use mir.Syntax.{w16}
+use mir.Val.{SFits}
 use Rattle.lists.specs.Lists.{at, eq_z}
 use Rattle.lists.proofs.Table.{both, both_left, both_right, at_each, eq_z→eq}
 use Rattle.basicop.specs.Inner.{sizes}
@@ -32,6 +35,13 @@ at_ruled k h = at_each ruled inter6 tt k h
 pub inter6_bound : (k : ℕ) → k < 61 → nat_abs (at inter6 k) ≤ 29443
 unfolding ruled small
 inter6_bound k h = leb→le (nat_abs (at inter6 k)) 29443 (both_left (small (at inter6 k)) (crosses k (at inter6 k)) (at_ruled k h))
+
+sized : (z : ℤ) → nat_abs z ≤ 29443 → SFits w16 z
+sized (pos n) h = record { sfits = omega (arith, h) }
+sized (negsuc n) h = record { sfits = omega (arith, h) }
+
+pub inter6_fits : (k : ℕ) → k < 61 → SFits w16 (at inter6 k)
+inter6_fits k h = sized (at inter6 k) (inter6_bound k h)
 
 pub inter6_zero : (k : ℕ) → 0 < k → k < 61 → k % 20 ≡ 0 → at inter6 k ≡ pos 0
 unfolding ruled crosses

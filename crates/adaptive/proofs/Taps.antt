@@ -1,14 +1,13 @@
--- The taps of a phase, in the order of the samples, and those of all three phases. Assumes nothing.
-use mathlib.Core.Path.{◌≡◌, sym, ◌∙◌}
+-- The taps of a phase, in the order of the samples. Assumes nothing.
+use mathlib.Core.Path.{◌≡◌, refl}
 use mathlib.Core.Bool.{Bool}
-use mathlib.Core.List.{List, ◌++◌}
+use mathlib.Core.List.{List}
 use Prim.Native.Nat.{ℕ, ◌+◌, ◌-◌, ◌*◌, ◌<◌, ◌≤◌}
 use borrow.Author.Tests.{lt-ltb, le-ltb}
-use native.Mathlib.Omega.{arith}
 use lib.Dec.{T, lit<}
 use lib.IntN.{ℤ, pos, ◌-ℤ◌}
-use lib.ListN.{length, take}
-use lib.Seq.{take_all}
+use lib.ListN.{length, take, drop}
+use Rattle.lists.proofs.Entries.{length_tab}
 use Rattle.lists.specs.Lists.{at, eq_z, tab}
 use Rattle.lists.proofs.Table.{all_below, below_each, eq_z→eq}
 use Rattle.basicop.specs.Inner.{sizes}
@@ -27,38 +26,44 @@ tap_left f j l = rw (lt-ltb j 10 l)
 pub tap_right : (f j : ℕ) → f ≤ 6 → 10 ≤ j → at inter6 (6 - f + 6 * (j - 10)) ≡ tap f j
 tap_right f j h l = rw (le-ltb j 10 l, minus 6 f h)
 
--- the taps of the three phases, each put in after the one before
-pub rows_done : (a b c : List ℤ) → take 20 a ≡ phase_taps 0 → take 40 b ≡ take 20 a ++ phase_taps 2 → take 60 c ≡ take 40 b ++ phase_taps 4 → length c ≡ 60 → c ≡ all_taps
-unfolding all_taps
-rows_done a b c e f g l = sym (take_all 60 c (omega (arith, l))) ∙ g ∙ rw (f, e)
-
 -- ---- the taps of phase f: its coefficients, and the sum of their sizes
-pub record Row (taps : List ℤ) (f : ℕ) : Type 0 where
-  pub left : (i : ℕ) → i < 10 → left_of taps (10 * f) i ≡ coefficient (pos f) i
-  pub right : (i : ℕ) → i < 10 → right_of taps (10 * f) i ≡ coefficient (pos 6 -ℤ pos f) i
-  pub light : Light taps (10 * f)
+pub record Row (taps : List ℤ) (f : ℤ) : Type 0 where
+  pub left : (i : ℕ) → i < 10 → left_of taps i ≡ coefficient f i
+  pub right : (i : ℕ) → i < 10 → right_of taps i ≡ coefficient (pos 6 -ℤ f) i
+  pub light : Light taps
+  pub twenty : length taps ≡ 20
 
 -- by tests that antt computes
 left_same : ℕ → ℕ → Bool
-left_same f i = eq_z (left_of all_taps (10 * f) i) (coefficient (pos f) i)
+left_same f i = eq_z (left_of (phase_taps f) i) (coefficient (pos f) i)
 
 right_same : ℕ → ℕ → Bool
-right_same f i = eq_z (right_of all_taps (10 * f) i) (coefficient (pos 6 -ℤ pos f) i)
+right_same f i = eq_z (right_of (phase_taps f) i) (coefficient (pos 6 -ℤ pos f) i)
 
-row_by : (f : ℕ) → T (all_below (left_same f) 10) → T (all_below (right_same f) 10) → Light all_taps (10 * f) → Row all_taps f
+row_by : (f : ℕ) → T (all_below (left_same f) 10) → T (all_below (right_same f) 10) → Light (phase_taps f) → Row (phase_taps f) (pos f)
 unfolding left_same right_same
 row_by f l r h =
     record {
       left = λ i k. eq_z→eq _ _ (below_each (left_same f) 10 l i k);
       right = λ i k. eq_z→eq _ _ (below_each (right_same f) 10 r i k);
       light = h;
+      twenty = length_tab (tap f) 20;
     }
 
-row_of : (q : Fraction) → Row all_taps (phase_of q)
-unfolding left_same right_same all_taps tab inter6 sizes
+row_of : (q : Fraction) → Row (phase_taps (phase_of q)) (pos (phase_of q))
+unfolding left_same right_same tab inter6 sizes
 row_of MinusThird = row_by 2 tt tt (lit< tt)
 row_of Zero = row_by 0 tt tt (lit< tt)
 row_of PlusThird = row_by 4 tt tt (lit< tt)
 
-pub lag_row : (l : PitchLag) (f : ℕ) (taps : List ℤ) → pos f ≡ phase (lag_of l) → taps ≡ all_taps → Row taps f
-lag_row l f taps e t = let k : f ≡ phase_of l.fraction = cc (phase_is l) in rw (t, k) (row_of l.fraction)
+-- the twenty of a phase, where they stand among all
+cut : (q : Fraction) → take (10 * phase_of q + 20 - 10 * phase_of q) (drop (10 * phase_of q) all_taps) ≡ phase_taps (phase_of q)
+unfolding all_taps tab inter6
+cut MinusThird = refl
+cut Zero = refl
+cut PlusThird = refl
+
+pub lag_row : (l : PitchLag) (f : ℕ) (all : List ℤ) → pos f ≡ phase (lag_of l) → all ≡ all_taps → Row (take (10 * f + 20 - 10 * f) (drop (10 * f) all)) (phase (lag_of l))
+lag_row l f all e t =
+    let k : f ≡ phase_of l.fraction = cc (phase_is l) in
+    rw (t, k, cut l.fraction, phase_is l) (row_of l.fraction)

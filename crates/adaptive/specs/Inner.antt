@@ -19,16 +19,16 @@ phase_taps f = tab (tap f) 20
 unfoldable pub all_taps : List ℤ
 all_taps = (phase_taps 0 ++ phase_taps 2) ++ phase_taps 4
 
--- coefficient i of each side, of the taps that start at n
-abbrev pub left_of : List ℤ → ℕ → ℕ → ℤ
-left_of taps n i = at taps (n + 9 - i)
+-- coefficient i of each side, of twenty taps
+abbrev pub left_of : List ℤ → ℕ → ℤ
+left_of taps i = at taps (9 - i)
 
-abbrev pub right_of : List ℤ → ℕ → ℕ → ℤ
-right_of taps n i = at taps (n + 10 + i)
+abbrev pub right_of : List ℤ → ℕ → ℤ
+right_of taps i = at taps (10 + i)
 
--- the taps that start at n are light: their sizes come to less than 65536
-abbrev pub Light : List ℤ → ℕ → Type 0
-Light taps n = sizes (left_of taps n) 10 + sizes (right_of taps n) 10 < 65536
+-- the taps are light: their sizes come to less than 65536
+abbrev pub Light : List ℤ → Type 0
+Light taps = sizes (left_of taps) 10 + sizes (right_of taps) 10 < 65536
 
 abbrev pub limit : ℕ
 limit = 16384

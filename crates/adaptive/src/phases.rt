@@ -1,11 +1,11 @@
 // The interpolation filter of Pred_lt_3or6, as twenty taps for each of the three phases.
-ghost use Rattle.std.specs.Prelude.{◌≡◌, ◌++◌, ◌+◌, ◌*◌, ◌<◌, ◌≤◌, pos, take};
+ghost use Rattle.std.specs.Prelude.{◌≡◌, ◌<◌, ◌≤◌, pos};
 ghost use Rattle.pitch.specs.Lag.{lag_of};
-ghost use Rattle.adaptive.specs.Predict.{inter6, phase, start};
+ghost use Rattle.adaptive.specs.Predict.{phase, start};
 ghost use Rattle.adaptive.specs.Inner.{tap, phase_taps, all_taps};
 
-use copy::copy;
 use pitch::{Fraction, PitchLag};
+use std::array;
 
 // inter_6, Q15: sixths of a sample.
 const COEFFICIENTS: [i16; 61] = [
@@ -17,10 +17,10 @@ const COEFFICIENTS: [i16; 61] = [
 
 // The fraction negated, in sixths, and 6 more where that is below 0.
 pub fn phase_of(lag: PitchLag) -> usize
-    ensures { pos result ≡ phase (lag_of lag) }
+    ensures value { pos result ≡ phase (lag_of lag) }
+    ensures range { result ≤ 4 }
 {
-    let fraction = lag.fraction;
-    match fraction {
+    match lag.fraction {
         Fraction::MinusThird => 2,
         Fraction::Zero => 0,
         Fraction::PlusThird => 4,
@@ -33,55 +33,36 @@ pub fn start_of(lag: PitchLag) -> usize
     ensures { pos result ≡ start (lag_of lag) }
 {
     let whole = 154 - (lag.samples as usize);
-    let fraction = lag.fraction;
-    match fraction {
-        Fraction::MinusThird => whole,
-        Fraction::Zero => whole,
+    match lag.fraction {
+        Fraction::MinusThird | Fraction::Zero => whole,
         Fraction::PlusThird => whole - 1,
     }
 }
 
 // Tap `j` of a phase, in the order of the samples: ten to the left, from the furthest on, and ten to the right.
-fn tap(table: &[i16; 61], phase: usize, j: usize) -> i16
-    requires { (table.now ≡ inter6) × ((phase ≤ 6) × (j < 20)) }
+fn tap(phase: usize, j: usize) -> i16
+    requires { (phase ≤ 6) × (j < 20) }
     ensures { result ≡ tap phase j }
 {
     if j < 10 {
-        return table[phase + 6 * (9 - j)];
+        COEFFICIENTS[phase + 6 * (9 - j)]
+    } else {
+        COEFFICIENTS[6 - phase + 6 * (j - 10)]
     }
-    table[6 - phase + 6 * (j - 10)]
 }
 
 // The twenty taps of a phase.
-fn phase_taps(table: &[i16; 61], phase: usize) -> [i16; 20]
-    requires { (table.now ≡ inter6) × (phase ≤ 4) }
+fn phase_taps(phase: usize) -> [i16; 20]
+    requires { phase ≤ 4 }
     ensures { result ≡ phase_taps phase }
 {
-    let mut r = [0i16; 20];
-    for j in 0..20 {
-        r[j] = tap(table, phase, j);
-    }
-    r
+    array::from_fn(|j| tap(phase, j))
 }
 
-// The taps, with the twenty of a phase put in from place 10 * phase on.
-fn with_phase(taps: [i16; 60], table: &[i16; 61], phase: usize) -> [i16; 60]
-    requires { (table.now ≡ inter6) × (phase ≤ 4) }
-    ensures { take (10 * phase + 20) result ≡ take (10 * phase) taps ++ phase_taps phase }
-{
-    let from = 10 * phase;
-    let row = phase_taps(table, phase);
-    let mut out = taps;
-    copy(&mut out[from..from + 20], &row);
-    out
-}
-
-// The taps of the three phases: constants, which the compiler works out.
+// Those of the phases 0, 2 and 4, one after another: constants, which the compiler works out.
 pub fn all_taps() -> [i16; 60]
     ensures { result ≡ all_taps }
 {
-    let table = COEFFICIENTS;
-    let zero = with_phase([0; 60], &table, 0);
-    let two = with_phase(zero, &table, 2);
-    with_phase(two, &table, 4)
+    let two: [i16; 40] = copy::joined(&phase_taps(0), &phase_taps(2));
+    copy::joined(&two, &phase_taps(4))
 }

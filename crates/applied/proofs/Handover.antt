@@ -9,7 +9,8 @@ use mir.Syntax.{w16}
 use mir.Val.{SFits}
 use Rattle.lists.specs.Lists.{minus}
 use Rattle.basicop.proofs.Words.{zero_fits}
-use Rattle.outcome.specs.declared.Outcome.TheVariants.{Accepted, Sharpening, SmoothedGain}
+use Rattle.std.specs.Prelude.{Ok, Err}
+use Rattle.outcome.specs.declared.Refusal.TheVariants.{Sharpening, SmoothedGain}
 use Rattle.outcome.specs.Outcome.{is_accepted}
 use Rattle.outcome.specs.Checks.{first_met}
 use Rattle.state.specs.declared.State.{State}
@@ -30,7 +31,7 @@ written : encoded silent ≡ silent_record
 unfolding encoded bytes_of numbers_of core_numbers post_numbers silent state_of core_of post_of silent_record
 written = refl
 
-module _ (s : State) (w : WellFormed s) (a : state_outcome s ≡ Accepted) (n : List ℕ) where
+module _ (s : State) (w : WellFormed s) (a : state_outcome s ≡ Ok tt) (n : List ℕ) where
   read_of : Read (n ++ encoded s) s n
   read_of =
       let e = read_back s w a n in
@@ -59,19 +60,19 @@ read_applied =
 turned : (x g : ℤ) (n : List ℕ) → SFits w16 x → SFits w16 g → (read_call (n ++ encoded (state_with x g))).answer.outcome ≡ state_outcome (state_with x g)
 turned x g n f h = same_outcome (state_with x g) (with_well_formed x g f h) n
 
-sharp : state_outcome (state_with (pos 13018) (pos 0)) ≡ Sharpening
+sharp : state_outcome (state_with (pos 13018) (pos 0)) ≡ Err Sharpening
 unfolding state_with state_of core_of post_of state_outcome first_met
 sharp = refl
 
-low : state_outcome (state_with (pos 13017) (minus 1)) ≡ SmoothedGain
+low : state_outcome (state_with (pos 13017) (minus 1)) ≡ Err SmoothedGain
 unfolding state_with state_of core_of post_of state_outcome first_met
 low = refl
 
-two : state_outcome (state_with (minus 1) (minus 1)) ≡ Sharpening
+two : state_outcome (state_with (minus 1) (minus 1)) ≡ Err Sharpening
 unfolding state_with state_of core_of post_of state_outcome first_met
 two = refl
 
-none : state_outcome (state_with (pos 13017) (pos 32767)) ≡ Accepted
+none : state_outcome (state_with (pos 13017) (pos 32767)) ≡ Ok tt
 unfolding state_with state_of core_of post_of state_outcome first_met
 none = refl
 

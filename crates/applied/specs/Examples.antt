@@ -1,12 +1,12 @@
 -- A call that demand 3 speaks of: from an accepted state, accepted, with subframes that are retried and subframes that are not, and it divides at every
 -- place where the definition can. And a call that is refused.
 -- The theorems are `example` and `refused_trace_lem` in proofs/Examples.antt: each value is computed from the definition.
-use Rattle.std.specs.Prelude.{◌≡◌, Bool, true, ℕ, List, [], ◌∷◌, ◌++◌, ℤ, pos, replicate}
+use Rattle.std.specs.Prelude.{◌≡◌, Ok, Err, Bool, true, ℕ, List, [], ◌∷◌, ◌++◌, ℤ, pos, replicate}
 use Rattle.lists.specs.Lists.{minus, at}
 use Rattle.basicop.specs.Ops.{Quotient}
 use Rattle.pitch.specs.Lag.{Lag}
 use Rattle.state.specs.declared.State.{State}
-use Rattle.outcome.specs.declared.Outcome.TheVariants.{Accepted, SheetLength}
+use Rattle.outcome.specs.declared.Refusal.TheVariants.{SheetLength}
 use Rattle.state.specs.State.{WellFormed, state_outcome}
 use Rattle.state.specs.Layout.{state_of}
 use Rattle.mr74.specs.Frame.{Trace}
@@ -87,7 +87,7 @@ expected =
 pub record Example : Type 0 where
   -- what demand 3 asks of the opening state
   pub well_formed : WellFormed silent
-  pub state : state_outcome silent ≡ Accepted
+  pub state : state_outcome silent ≡ Ok tt
   pub call : seen (trace_of silent call) ≡ expected
   -- the list meets both conditions: a call was accepted, and the last subframe of the latest accepted one was retried, since its place is not 40
   pub any : any_accepted (run_calls silent calls) ≡ true
@@ -100,7 +100,7 @@ zero_row = replicate 11 (pos 0)
 abbrev pub empty_trace : State → Trace
 empty_trace s =
     record {
-      outcome = SheetLength;
+      outcome = Err SheetLength;
       rows = record { a = zero_row; b = zero_row; c = zero_row; d = zero_row };
       lags = [];
       subframes = [];

@@ -1,8 +1,8 @@
 -- The theorems of reader and writer together (record/specs/Handover.antt) applied to concrete records, their conclusions written out: of `read_back`
 -- ReadApplied, of `same_outcome` TurnedBack, of `same_rest` RestApplied. The theorems are in proofs/Handover.antt.
-use Rattle.std.specs.Prelude.{◌≡◌, List, [], ◌∷◌, ◌++◌, ℕ, ℤ, pos, length, drop, replicate}
+use Rattle.std.specs.Prelude.{◌≡◌, Ok, Err, List, [], ◌∷◌, ◌++◌, ℕ, ℤ, pos, length, drop, replicate}
 use Rattle.lists.specs.Lists.{minus}
-use Rattle.outcome.specs.declared.Outcome.TheVariants.{Accepted, Sharpening, SmoothedGain}
+use Rattle.outcome.specs.declared.Refusal.TheVariants.{Sharpening, SmoothedGain}
 use Rattle.state.specs.declared.State.{State}
 use Rattle.state.specs.Layout.{state_of}
 use Rattle.record.specs.Record.{read_call, encoded}
@@ -19,7 +19,7 @@ note = 7 ∷ 0 ∷ 255 ∷ []
 
 -- the state s is read from the record b, with the note n
 pub record Read (b : List ℕ) (s : State) (n : List ℕ) : Type 0 where
-  pub outcome : (read_call b).answer.outcome ≡ Accepted
+  pub outcome : (read_call b).answer.outcome ≡ Ok tt
   pub state : (read_call b).answer.state ≡ s
   pub note : (read_call b).note ≡ n
 
@@ -37,10 +37,10 @@ state_with sharpening gain = state_of (replicate 164 (pos 0) ++ (sharpening ∷ 
 
 -- 16, 17; 16 comes before 17; none
 pub record TurnedBack : Type 0 where
-  pub sharpening : (read_call (note ++ encoded (state_with (pos 13018) (pos 0)))).answer.outcome ≡ Sharpening
-  pub gain : (read_call (encoded (state_with (pos 13017) (minus 1)))).answer.outcome ≡ SmoothedGain
-  pub both : (read_call (encoded (state_with (minus 1) (minus 1)))).answer.outcome ≡ Sharpening
-  pub neither : (read_call (note ++ encoded (state_with (pos 13017) (pos 32767)))).answer.outcome ≡ Accepted
+  pub sharpening : (read_call (note ++ encoded (state_with (pos 13018) (pos 0)))).answer.outcome ≡ Err Sharpening
+  pub gain : (read_call (encoded (state_with (pos 13017) (minus 1)))).answer.outcome ≡ Err SmoothedGain
+  pub both : (read_call (encoded (state_with (minus 1) (minus 1)))).answer.outcome ≡ Err Sharpening
+  pub neither : (read_call (note ++ encoded (state_with (pos 13017) (pos 32767)))).answer.outcome ≡ Ok tt
 
 -- ---- two records of the same state differ in their notes alone
 abbrev pub RestApplied : Type 0

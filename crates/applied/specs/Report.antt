@@ -1,9 +1,9 @@
 -- The theorems of the shift report (shift_report/specs/Report.antt, Steps.antt) applied to inputs, lists of calls and a sum; and the totals and the line of
 -- three calls, computed. The theorem is `report_applied` in proofs/Report.antt.
-use Rattle.std.specs.Prelude.{◌≡◌, List, [], ◌∷◌, ◌++◌, ℕ, ◌<◌, ◌≤◌, ℤ, pos, nat_abs, length, ◌≤ℤ◌, ◌<ℤ◌}
+use Rattle.std.specs.Prelude.{◌≡◌, Ok, Err, List, [], ◌∷◌, ◌++◌, ℕ, ◌<◌, ◌≤◌, ℤ, pos, nat_abs, length, ◌≤ℤ◌, ◌<ℤ◌}
 use Rattle.lists.specs.Lists.{minus}
-use Rattle.outcome.specs.declared.Outcome.{Outcome}
-use Rattle.outcome.specs.declared.Outcome.TheVariants.{Accepted, SheetLength}
+use Rattle.outcome.specs.Outcome.{Outcome}
+use Rattle.outcome.specs.declared.Refusal.TheVariants.{SheetLength}
 use Rattle.mr74.specs.Frame.{Trace}
 use Rattle.calls.specs.Calls.{run_calls}
 use Rattle.shift_report.specs.declared.Totals.{Totals}
@@ -29,10 +29,10 @@ trace_with outcome places output =
     }
 
 abbrev pub two : List Trace
-two = trace_with Accepted (8 ∷ 40 ∷ 40 ∷ 19 ∷ []) (minus 80 ∷ minus 90 ∷ []) ∷ trace_with Accepted (40 ∷ 40 ∷ 40 ∷ 40 ∷ []) (minus 3 ∷ pos 7 ∷ []) ∷ []
+two = trace_with (Ok tt) (8 ∷ 40 ∷ 40 ∷ 19 ∷ []) (minus 80 ∷ minus 90 ∷ []) ∷ trace_with (Ok tt) (40 ∷ 40 ∷ 40 ∷ 40 ∷ []) (minus 3 ∷ pos 7 ∷ []) ∷ []
 
 abbrev pub three : List Trace
-three = two ++ (trace_with SheetLength (40 ∷ 40 ∷ 40 ∷ 40 ∷ []) (pos 5 ∷ pos 500 ∷ []) ∷ [])
+three = two ++ (trace_with (Err SheetLength) (40 ∷ 40 ∷ 40 ∷ 40 ∷ []) (pos 5 ∷ pos 500 ∷ []) ∷ [])
 
 -- 80² + 90² + 3² + 7²; the peaks are 90 and 7
 abbrev pub expected : Totals

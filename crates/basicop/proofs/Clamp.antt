@@ -1,19 +1,21 @@
 -- The clamp, for any width. Assumes nothing.
-use mathlib.Core.Path.{◌≡◌, refl, sym, ap, ◌∙◌, subst}
+use mathlib.Core.Path.{◌≡◌, refl, sym, ap, ◌∙◌}
 use mathlib.Core.Bool.{Bool, true, false, cond}
 use Prim.Native.Nat.{ℕ, zero, suc, min, ◌*◌, ◌-◌, ◌^◌, ◌<◌, ◌≤◌}
 use native.Mathlib.Nat.{zero-mul}
 use native.Mathlib.Omega.{arith}
 use borrow.Author.Tests.{leb-true, leb-false, ltb-true, ltb-false}
-use lib.Dec.{leb, ltb, lit<}
+use lib.Dec.{T, leb, ltb, lit<}
 use lib.Pow.{pow_mono, pow_pos}
 use lib.IntN.{ℤ, pos, negsuc, neg_ℤ, ◌-ℤ◌, ◌*ℤ◌}
 use lib.Signed.{◌≤ℤ◌, ◌<ℤ◌, lt_z}
 use mir.Syntax.{Width, w8, w16, w32, w64, w128}
 use mir.Val.{SFits, hbits, to_z, of_z}
 use mir.Facts.{to_z-of_z}
+use Rattle.std.specs.Int.{int_max, int_min}
 use Rattle.basicop.specs.Ops.{clamp, least, most}
 use Rattle.basicop.proofs.Ints.{arith_ℤ, sub_ℤ_is}
+use Rattle.basicop.proofs.Range.{sfits_wider}
 use Rattle.basicop.proofs.Tests.{less_yes, less_no, yes_less, no_less}
 
 -- by its two tests
@@ -127,16 +129,21 @@ clamp_min w x n = go (leb n (hbits w)) refl
     go true e = ap (λ (i : ℕ). clamp w (x *ℤ pos (2 ^ i))) (omega (arith, leb-true))
     go false e = clamp_far w x (min n (hbits w)) n (omega (arith, leb-false)) (omega (arith, leb-false))
 
--- ---- a function that tests against the ends of the range of w, at a wider v: its three answers. The tests are as a branch has them, of the bits read back
-module _ (w v : Width) (z : ℤ) (fit : SFits v z) where
-  pub held_low : lt_z (to_z v (of_z v z)) (least w) ≡ true → least w ≡ clamp w z
-  held_low e = sym (clamp_low w z (rw (to_z-of_z fit) at e))
+-- ---- std's own: `x.clamp(low, high)` at the ends of the range of w, of a number of a wider v
+ends : (w : Width) (z : ℤ) → int_max (least w) (int_min z (most w)) ≡ clamp w z
+ends w (pos n) = rw (clamp_pos w n) (go (ltb (2 ^ hbits w - 1) n) refl)
+  where
+    go : (t : Bool) → ltb (2 ^ hbits w - 1) n ≡ t → int_max (least w) (cond t (most w) (pos n)) ≡ pos (min n (2 ^ hbits w - 1))
+    go true e = ap pos (omega (arith, ltb-true))
+    go false e = ap pos (omega (arith, ltb-false))
+ends w (negsuc n) = rw (clamp_neg w n) (go (ltb (2 ^ hbits w - 1) n) refl)
+  where
+    go : (t : Bool) → ltb (2 ^ hbits w - 1) n ≡ t → cond t (least w) (negsuc n) ≡ negsuc (min n (2 ^ hbits w - 1))
+    go true e = ap negsuc (omega (arith, ltb-true))
+    go false e = ap negsuc (omega (arith, ltb-false))
 
-  pub held_high : lt_z (to_z v (of_z v z)) (least w) ≡ false → lt_z (most w) (to_z v (of_z v z)) ≡ true → most w ≡ clamp w z
-  held_high e f = sym (clamp_high w z (rw (to_z-of_z fit) at e) (rw (to_z-of_z fit) at f))
-
-  pub held_fits : lt_z (to_z v (of_z v z)) (least w) ≡ false → lt_z (most w) (to_z v (of_z v z)) ≡ false → SFits w (to_z v (of_z v z))
-  held_fits e f = rw (to_z-of_z fit) (subst (SFits w) (clamp_mid w z (rw (to_z-of_z fit) at e) (rw (to_z-of_z fit) at f)) (clamp_fits w z))
-
-  pub held_mid : (e : lt_z (to_z v (of_z v z)) (least w) ≡ false) (f : lt_z (most w) (to_z v (of_z v z)) ≡ false) → to_z w (of_z w (to_z v (of_z v z))) ≡ clamp w z
-  held_mid e f = to_z-of_z (held_fits e f) ∙ to_z-of_z fit ∙ sym (clamp_mid w z (rw (to_z-of_z fit) at e) (rw (to_z-of_z fit) at f))
+pub held : (w v : Width) (z : ℤ) {r : ℤ} → SFits v z → T (leb (2 ^ hbits w) (2 ^ hbits v)) → r ≡ int_max (least w) (int_min (to_z v (of_z v z)) (most w)) → to_z w (of_z w (to_z v (of_z v r))) ≡ clamp w z
+held w v z f t e =
+    let k = rw (to_z-of_z f, ends w z) at e in
+    let g = clamp_fits w z in
+    rw (k, to_z-of_z (sfits_wider v (clamp w z) (2 ^ hbits w) g.sfits t)) (to_z-of_z g)

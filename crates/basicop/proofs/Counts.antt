@@ -7,8 +7,8 @@ use native.Mathlib.Omega.{arith}
 use borrow.Author.Tests.{lt-ltb, le-ltb}
 use lib.Dec.{T, lit<, lit≤, leb→le, ltb→lt}
 use lib.Pow.{pow_pos}
-use lib.IntN.{ℤ, pos, negsuc, neg_ℤ, nat_abs, ◌+ℤ◌, ◌-ℤ◌, ◌*ℤ◌}
-use lib.Signed.{◌≤ℤ◌, ◌<ℤ◌, le_z, lt_z, shr_z}
+use lib.IntN.{ℤ, pos, negsuc, nat_abs, ◌+ℤ◌, ◌-ℤ◌, ◌*ℤ◌}
+use lib.Signed.{◌≤ℤ◌, ◌<ℤ◌, le_z, shr_z}
 use mir.Syntax.{Width, w16, w32}
 use mir.Val.{SFits, hbits}
 use Rattle.basicop.specs.Ops.{clamp, asr, mod_z, shl, shr, l_shl, l_shr, l_shr_r}
@@ -17,33 +17,21 @@ use Rattle.basicop.proofs.Shift as S
 use Rattle.basicop.proofs.Shift.{asr_zero, asr_same, asr_asr, mod_z_lt}
 use Rattle.basicop.proofs.Clamp.{clamp_id, clamp_clamp}
 
--- k is -n, of a negative n
-opposite_suc : (k n : ℕ) → pos k ≡ neg_ℤ (negsuc n) → k ≡ suc n
-opposite_suc k n e = cc
-
 module _ (x : ℤ) where
-  pub l_shl_left : (n : ℤ) (k : ℕ) → pos k ≡ n → clamp w32 (x *ℤ pos (2 ^ k)) ≡ l_shl x n
+  pub l_shl_left : (n : ℤ) → pos 0 ≤ℤ n → clamp w32 (x *ℤ pos (2 ^ nat_abs n)) ≡ l_shl x n
   unfolding l_shl
-  l_shl_left n k e = rw (← e)
+  l_shl_left (pos n) h = refl
+  l_shl_left (negsuc n) h = absurd h.le
 
-  pub l_shl_right : (n : ℤ) (k : ℕ) → n <ℤ pos 0 → pos k ≡ neg_ℤ n → asr x k ≡ l_shl x n
+  pub l_shl_right : (n : ℤ) → n <ℤ pos 0 → asr x (nat_abs n) ≡ l_shl x n
   unfolding l_shl
-  l_shl_right (pos n) k h e = absurd (lt_zero n (ltb→lt n 0 h.lt))
-    where
-      lt_zero : (n : ℕ) → n < 0 → ⊥
-      lt_zero n l = omega arith
-  l_shl_right (negsuc n) k h e = ap (asr x) (opposite_suc k n e)
+  l_shl_right (pos n) h = omega (arith_ℤ, h)
+  l_shl_right (negsuc n) h = refl
 
-  pub l_shr_right : (n : ℤ) (k : ℕ) → pos k ≡ n → asr x k ≡ l_shr x n
-  l_shr_right n k e = rw (← e)
-
-  pub l_shr_left : (n : ℤ) (k : ℕ) → n <ℤ pos 0 → pos k ≡ neg_ℤ n → clamp w32 (x *ℤ pos (2 ^ k)) ≡ l_shr x n
+  pub l_shr_left : (n : ℤ) → n <ℤ pos 0 → clamp w32 (x *ℤ pos (2 ^ nat_abs n)) ≡ l_shr x n
   unfolding l_shl
-  l_shr_left (pos n) k h e = absurd (lt_zero n (ltb→lt n 0 h.lt))
-    where
-      lt_zero : (n : ℕ) → n < 0 → ⊥
-      lt_zero n l = omega arith
-  l_shr_left (negsuc n) k h e = ap (λ (i : ℕ). clamp w32 (x *ℤ pos (2 ^ i))) (opposite_suc k n e)
+  l_shr_left (pos n) h = omega (arith_ℤ, h)
+  l_shr_left (negsuc n) h = refl
 
 -- ---- 16 bits: the 32-bit shift, clamped once more
 pub shl_is : (x n : ℤ) → SFits w16 x → clamp w16 (l_shl x n) ≡ shl x n
@@ -66,14 +54,14 @@ l_shr_r_none x (pos (suc n)) h = absurd (over h.le)
     over t = omega (arith, leb→le (suc n) 0 t)
 l_shr_r_none x (negsuc n) h = refl
 
-pub l_shr_r_far : (x n : ℤ) → pos 31 <ℤ n → pos 0 ≡ l_shr_r x n
+pub l_shr_r_far : (x n : ℤ) → pos 32 ≤ℤ n → pos 0 ≡ l_shr_r x n
 unfolding l_shr_r
-l_shr_r_far x (pos zero) h = absurd (over h.lt)
+l_shr_r_far x (pos zero) h = absurd (over h.le)
   where
-    over : T (lt_z (pos 31) (pos 0)) → ⊥
-    over t = omega (arith, ltb→lt 31 0 t)
+    over : T (le_z (pos 32) (pos 0)) → ⊥
+    over t = omega (arith, leb→le 32 0 t)
 l_shr_r_far x (pos (suc n)) h = rw (le-ltb n 31 (omega arith_ℤ))
-l_shr_r_far x (negsuc n) h = absurd h.lt
+l_shr_r_far x (negsuc n) h = absurd h.le
 
 -- by k, from 1 to 31: the bit that is added is the one by which x >> (k - 1) differs from twice x >> k
 halves_up : (y : ℤ) → y -ℤ asr y 1 ≡ asr y 1 +ℤ pos (mod_z y 2)
@@ -92,12 +80,12 @@ pub record Rounded (x n : ℤ) : Type 0 where
   pub fits : SFits w32 (asr x (nat_abs n - 1) -ℤ asr x (nat_abs n))
   pub is : asr x (nat_abs n - 1) -ℤ asr x (nat_abs n) ≡ l_shr_r x n
 
-pub l_shr_r_is : (x n : ℤ) → SFits w32 x → pos 0 <ℤ n → n ≤ℤ pos 31 → Rounded x n
+pub l_shr_r_is : (x n : ℤ) → SFits w32 x → pos 0 <ℤ n → n <ℤ pos 32 → Rounded x n
 unfolding l_shr_r
 l_shr_r_is x (pos zero) f h l = absurd (lt_irrefl 0 (ltb→lt 0 0 h.lt))
 l_shr_r_is x (pos (suc k)) f h l =
     let e : suc k - 1 ≡ k = omega arith in
-    let s : k < 31 = leb→le (suc k) 31 l.le in
+    let s : k < 31 = omega (arith, ltb→lt (suc k) 32 l.lt) in
     record {
       from = omega arith;
       fits = rw (e, one_more x k) (halves_fit w32 (asr x k) (asr_same w32 x k f));

@@ -1,8 +1,10 @@
 -- The shift to the right and its remainder. Assumes nothing.
 use mathlib.Core.Path.{◌≡◌, refl, sym, ap, ◌∙◌, subst}
-use Prim.Native.Nat.{ℕ, ◌+◌, ◌*◌, ◌/◌, ◌^◌, ◌<◌, ◌≤◌}
+use mathlib.Core.Bool.{Bool, true, false}
+use Prim.Native.Nat.{ℕ, min, ◌+◌, ◌*◌, ◌/◌, ◌^◌, ◌<◌, ◌≤◌}
 use native.Mathlib.Nat.{div-eq_of_lt, div-div-eq-div-mul, div-one, div-add-mod', mod-lt, div-le_self, div-lt_iff_lt-mul, lt_of_le_of_lt, lt_of_lt_of_le}
 use native.Mathlib.Omega.{arith}
+use borrow.Author.Tests.{leb-true, leb-false}
 use lib.Dec.{T, leb, ltb, leb→le, ltb→lt}
 use lib.Pow.{pow-add, pow_mono, shr_lt, shr_mono}
 use lib.IntN.{ℤ, pos, negsuc}
@@ -51,6 +53,14 @@ asr_far w (negsuc a) m n f h k = ap negsuc (gone m h ∙ sym (gone n k))
   where
     gone : (m : ℕ) → hbits w ≤ m → a / 2 ^ m ≡ 0
     gone m h = div-eq_of_lt (lt_of_lt_of_le f.sfits (pow_mono h))
+
+-- so a count beyond that may be held to it
+pub asr_min : (w : Width) (z : ℤ) (n : ℕ) → SFits w z → asr z (min n (hbits w)) ≡ asr z n
+asr_min w z n f = go (leb n (hbits w)) refl
+  where
+    go : (t : Bool) → leb n (hbits w) ≡ t → asr z (min n (hbits w)) ≡ asr z n
+    go true e = ap (asr z) (omega (arith, leb-true))
+    go false e = asr_far w z (min n (hbits w)) n f (omega (arith, leb-false)) (omega (arith, leb-false))
 
 pub asr_same : (w : Width) (z : ℤ) (n : ℕ) → SFits w z → SFits w (asr z n)
 unfolding asr

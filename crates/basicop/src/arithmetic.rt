@@ -1,4 +1,6 @@
 // Sums, differences, products and the quotient.
+#![tactic(auto, unfolding(crate::specs::Ops::add, crate::specs::Ops::sub, crate::specs::Ops::l_add, crate::specs::Ops::l_sub))]
+
 ghost use Rattle.std.specs.Prelude.{◌≡◌, pos, ◌≤ℤ◌, ◌<ℤ◌};
 ghost use Rattle.basicop.specs.Ops.{add, sub, mult, l_add, l_sub, l_mult, l_mac, l_msu, div_s};
 

@@ -14,7 +14,7 @@ pub fn extract_h(x: i32) -> i16
 fn residue(x: i32) -> i32
     ensures { result ≡ pos (mod_z x 65536) }
 {
-    x - (x >> 16) * 65536
+    x & 0xffff
 }
 
 // Document 01's truncation, Rust's `x as i16`.
@@ -23,10 +23,7 @@ pub fn extract_l(x: i32) -> i16
 {
     let u = residue(x);
     let low = u < 32768;
-    if low {
-        return u as i16;
-    }
-    (u - 65536) as i16
+    if low { u as i16 } else { (u - 65536) as i16 }
 }
 
 pub fn round(x: i32) -> i16

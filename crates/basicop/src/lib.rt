@@ -22,7 +22,7 @@ pub use interpolation::{interpolate, locate};
 pub use normalization::norm_l;
 pub use oper_32b::{l_extract, mpy_32_16};
 pub use saturation::clamp32;
-pub use shifting::{l_shl, l_shr, l_shr_r, opposite, shr};
+pub use shifting::{l_shl, l_shr, l_shr_r, shr};
 
 // A number that is handed on between functions has its scaling in its type: Qn is scaled by 2 ^ n.
 // Pitch gain and sharpening.
@@ -65,19 +65,18 @@ pub fn mac(s: i32, a: i16, b: i16, plain: bool) -> i32
     ensures { result ≡ l_mac s a b }
 {
     if plain {
-        return s + 2 * ((a as i32) * (b as i32));
+        s + 2 * ((a as i32) * (b as i32))
+    } else {
+        l_mac(s, a, b)
     }
-    l_mac(s, a, b)
 }
 
 // each sample >> 2
 pub fn quarter(samples: &mut [i16])
     ensures { samples.new ≡ quartered samples.old }
 {
-    let mut i = 0;
-    while i < samples.len() {
-        samples[i] = shr(samples[i], 2);
-        i += 1;
+    for sample in samples {
+        *sample = shr(*sample, 2);
     }
 }
 

@@ -8,17 +8,17 @@ fn headroom(n: u32) -> i16
     requires { n < 2147483648 }
     ensures { result ≡ pos (count_leading_zeros 32 n - 1) }
 {
-    (u32::leading_zeros(n) - 1) as i16
+    (n.leading_zeros() - 1) as i16
 }
 
 pub fn norm_l(x: i32) -> i16
     ensures { result ≡ norm_l x }
 {
     if x < 0 {
-        return headroom((-1 - x) as u32);
+        headroom(!x as u32)
+    } else if 0 < x {
+        headroom(x as u32)
+    } else {
+        0
     }
-    if 0 < x {
-        return headroom(x as u32);
-    }
-    0
 }

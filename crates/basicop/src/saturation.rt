@@ -7,24 +7,12 @@ ghost use Rattle.basicop.specs.Ops.{clamp};
 pub fn clamp16(x: i32) -> i16
     ensures { result ≡ clamp w16 x }
 {
-    if x < -32768 {
-        return -32768;
-    }
-    if 32767 < x {
-        return 32767;
-    }
-    x as i16
+    x.clamp(i16::MIN as i32, i16::MAX as i32) as i16
 }
 
 // x held to the range of an i32
 pub fn clamp32(x: i64) -> i32
     ensures { result ≡ clamp w32 x }
 {
-    if x < -2147483648 {
-        return -2147483648;
-    }
-    if 2147483647 < x {
-        return 2147483647;
-    }
-    x as i32
+    x.clamp(i32::MIN as i64, i32::MAX as i64) as i32
 }

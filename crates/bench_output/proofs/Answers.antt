@@ -8,7 +8,10 @@ use lib.IntN.{ℤ}
 use lib.ListN.{length}
 use Rattle.decoder.specs.Subframe.{flag_of}
 use Rattle.state.specs.declared.State.{State}
-use Rattle.outcome.specs.Outcome.{number_of, place_of, is_accepted}
+use Rattle.std.specs.Prelude.{Ok, Err}
+use Rattle.outcome.specs.declared.Refusal.{Refusal}
+use Rattle.outcome.specs.Outcome.{refusal_number, refusal_place}
+use Rattle.outcome.proofs.Variants.{never_accepted}
 use Rattle.mr74.specs.declared.FrameAnswer.{FrameAnswer}
 use Rattle.mr74.specs.Frame.{CallResult, call_result}
 use Rattle.lines.specs.Lines.{peak_of, frame_line, refused_line, cut_line}
@@ -17,13 +20,13 @@ use Rattle.bench_output.specs.Output.{answer_line}
 use Rattle.bench_output.specs.Steps.{sheet_step}
 
 module _ (n : ℕ) (a : FrameAnswer) (xs : List ℤ) (line : List ℕ) where
-  pub line_accepted : (flags : List Bool) (peak : ℤ) → is_accepted a.outcome ≡ true → flags ≡ map flag_of a.places → peak ≡ peak_of xs → line ≡ frame_line n flags peak → line ≡ answer_line n (call_result a xs)
+  pub line_accepted : (flags : List Bool) (peak : ℤ) → a.outcome ≡ Ok tt → flags ≡ map flag_of a.places → peak ≡ peak_of xs → line ≡ frame_line n flags peak → line ≡ answer_line n (call_result a xs)
   unfolding answer_line
   line_accepted flags peak y f e l = rw (y, ← f, ← e) l
 
-  pub line_refused : (number place : ℕ) → is_accepted a.outcome ≡ false → number ≡ number_of a.outcome → place ≡ place_of a.outcome → line ≡ refused_line n number place → line ≡ answer_line n (call_result a xs)
+  pub line_refused : (number place : ℕ) (refusal : Refusal) → a.outcome ≡ Err refusal → number ≡ refusal_number refusal → place ≡ refusal_place refusal → line ≡ refused_line n number place → line ≡ answer_line n (call_result a xs)
   unfolding answer_line
-  line_refused number place y e f l = rw (y, ← e, ← f) l
+  line_refused number place refusal y e f l = rw (y, never_accepted refusal, ← e, ← f) l
 
 module _ (n : ℕ) (s : State) (bytes : List ℕ) where
   pub step_none : length bytes ≡ 0 → step_result [] s false ≡ sheet_step n s bytes

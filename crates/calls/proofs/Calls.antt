@@ -10,9 +10,8 @@ use Rattle.decoder.specs.Inputs.{FrameInputs, Usable}
 use Rattle.decoder.specs.Subframe.{flag_of}
 use Rattle.decoder.proofs.Retry.{Small}
 use Rattle.state.specs.declared.State.{State}
-use Rattle.outcome.specs.declared.Outcome.{Outcome}
-use Rattle.outcome.specs.declared.Outcome.TheVariants.{Accepted}
-use Rattle.outcome.specs.Outcome.{is_accepted}
+use Rattle.std.specs.Prelude.{Ok}
+use Rattle.outcome.specs.Outcome.{Outcome, is_accepted}
 use Rattle.state.specs.State.{WellFormed, state_outcome}
 use Rattle.state.proofs.Checks.{InRange, in_range_accepted}
 use Rattle.mr74.specs.Sheet.{sheet_inputs}
@@ -91,7 +90,7 @@ module _ (s : State) (c : Call) (w : WellFormed s) (e : accepted (trace_of s c) 
   next_facts = subst (λ (t : Trace). NextFacts t.next) (sym (accepts s c e).trace) result.next
 
   -- the state's checks accept it
-  pub next_accepted : state_outcome (next_state s c) ≡ Accepted
+  pub next_accepted : state_outcome (next_state s c) ≡ Ok tt
   next_accepted = in_range_accepted (next_state s c) next_facts.passes
 
   -- after a retried last subframe

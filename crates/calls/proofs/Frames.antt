@@ -20,7 +20,7 @@ use Rattle.decoder.proofs.Results.{Held, CoreFacts, core_facts}
 use Rattle.postfilter.specs.Tilted.{Framed}
 use Rattle.postfilter.proofs.Results.{processed_kept, framed_rows, rows_first}
 use Rattle.state.specs.declared.State.{State}
-use Rattle.outcome.specs.declared.Outcome.{Outcome}
+use Rattle.outcome.specs.Outcome.{Outcome}
 use Rattle.state.specs.State.{WellFormed}
 use Rattle.state.proofs.Checks.{InRange}
 use Rattle.mr74.specs.Frame.{core_result_of, post_result_of, next_state_of, accepted_trace}

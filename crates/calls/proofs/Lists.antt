@@ -6,7 +6,7 @@ use Prim.Native.Nat.{ℕ, suc}
 use lib.ListN.{length, get_or}
 use Rattle.decoder.specs.Subframe.{flag_of}
 use Rattle.state.specs.declared.State.{State}
-use Rattle.outcome.specs.declared.Outcome.TheVariants.{Accepted}
+use Rattle.std.specs.Prelude.{Ok}
 use Rattle.state.specs.State.{WellFormed, state_outcome}
 use Rattle.mr74.specs.Frame.{Trace}
 use Rattle.calls.specs.Calls.{Call, trace_of, next_state, run_calls, state_after, accepted, any_accepted, latest_place}
@@ -53,8 +53,8 @@ module _ (P : State → Type 0) (after : (s : State) (c : Call) → WellFormed s
 pub list_well_formed : (cs : List Call) (s : State) → WellFormed s → WellFormed (state_after s cs)
 list_well_formed cs s w = always WellFormed (λ s c w e. next_well_formed s c w) cs s w w
 
-pub list_accepted : (cs : List Call) (s : State) → WellFormed s → state_outcome s ≡ Accepted → state_outcome (state_after s cs) ≡ Accepted
-list_accepted = always (λ (s : State). state_outcome s ≡ Accepted) next_accepted
+pub list_accepted : (cs : List Call) (s : State) → WellFormed s → state_outcome s ≡ Ok tt → state_outcome (state_after s cs) ≡ Ok tt
+list_accepted = always (λ (s : State). state_outcome s ≡ Ok tt) next_accepted
 
 -- ---- after the latest accepted call, its last subframe retried
 latest_step : (s : State) (c : Call) (n : ℕ) → WellFormed s → (flag_of n ≡ true → SmallPast s) → flag_of (cond (accepted (trace_of s c)) (get_or (trace_of s c).places 3 40) n) ≡ true → SmallPast (next_state s c)

@@ -7,7 +7,7 @@ use lib.ListN.{length}
 use lib.Dec.{eqb}
 use borrow.Author.Tests.{eq-eqb, ne_eqb, eqb-true}
 use Rattle.state.specs.declared.State.{State}
-use Rattle.outcome.specs.declared.Outcome.{Outcome}
+use Rattle.outcome.specs.Outcome.{Outcome}
 use Rattle.record.specs.declared.Answer.{Answer}
 use Rattle.record.specs.Record.{read_call, write_result, write_call}
 use Rattle.mr74.specs.declared.FrameAnswer.{FrameAnswer}

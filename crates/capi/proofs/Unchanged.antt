@@ -5,8 +5,7 @@ use mathlib.Core.List.{List}
 use Prim.Native.Nat.{ℕ}
 use native.Mathlib.Omega.{arith}
 use lib.ListN.{length}
-use Rattle.outcome.specs.declared.Outcome.{Outcome}
-use Rattle.outcome.specs.Outcome.{is_accepted}
+use Rattle.outcome.specs.Outcome.{Outcome, is_accepted}
 use Rattle.outcome.proofs.Variants.{accepted_number, accepted_place}
 use Rattle.state.specs.Layout.{state_count}
 use Rattle.state.proofs.Numbers.{numbers_of_state}

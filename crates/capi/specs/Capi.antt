@@ -3,8 +3,7 @@ use Rattle.std.specs.Prelude.{◌≡◌, Bool, cond, ◌&&◌, List, [], ◌∷�
 use Rattle.lists.specs.Parts.{joined}
 use Rattle.lpc.specs.declared.Rows.{Rows}
 use Rattle.state.specs.declared.State.{State}
-use Rattle.outcome.specs.declared.Outcome.{Outcome}
-use Rattle.outcome.specs.Outcome.{number_of, place_of, is_accepted}
+use Rattle.outcome.specs.Outcome.{Outcome, number_of, place_of, is_accepted}
 use Rattle.state.specs.Layout.{numbers_of, state_of}
 use Rattle.coding.specs.Bytes.{words, bytes_of, Bytes}
 use Rattle.coding.specs.Body.{body_length}

@@ -20,10 +20,6 @@ const STATE_BYTES: usize = coding::BODY_BYTES;
 
 const ROW_BYTES: usize = 2 * 11;
 
-const TWO_ROWS: usize = 2 * ROW_BYTES;
-
-const THREE_ROWS: usize = 3 * ROW_BYTES;
-
 const ROWS_BYTES: usize = 4 * ROW_BYTES;
 
 const PLACES_BYTES: usize = 4;
@@ -43,8 +39,8 @@ fn code(outcome: Outcome) -> u32
     requires { place_of outcome < 256 }
     ensures { result ≡ code_of outcome }
 {
-    let number = outcome.number() as u32;
-    let place = outcome.place() as u32;
+    let number = outcome::number(outcome) as u32;
+    let place = outcome::place(outcome) as u32;
     number + 256 * place
 }
 
@@ -76,12 +72,9 @@ pub fn mr74_read(bytes: &[u8], state: &mut [u8], note: &mut usize) -> u32
         return UNFIT;
     }
     let answer = record::answer_of(bytes);
-    let found = answer.state;
-    coding::write_body(found, state);
-    let part = record::note(bytes);
-    *note = part.len();
-    let outcome = answer.outcome;
-    code(outcome)
+    coding::write_body(answer.state, state);
+    *note = record::note(bytes).len();
+    code(answer.outcome)
 }
 
 // ---- the writer
@@ -92,7 +85,5 @@ pub fn mr74_write(state: &[u8], bytes: &mut [u8]) -> u32
     if state.len() != STATE_BYTES {
         return UNFIT;
     }
-    let written = coding::state_in(state);
-    let outcome = record::write(written, bytes);
-    code(outcome)
+    code(record::write(coding::state_in(state), bytes))
 }

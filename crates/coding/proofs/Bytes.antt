@@ -1,104 +1,66 @@
 -- Numbers of 16 bits and their bytes: one number, loops over them, and both ways after one another. Assumes nothing.
 use mathlib.Core.Path.{◌≡◌, refl, ap, sym, ◌∙◌}
-use mathlib.Core.Bool.{Bool, true, false, cond}
-use mathlib.Core.List.{List, [], ◌∷◌, ◌++◌, append_assoc, append-nil}
+use mathlib.Core.Bool.{Bool, true, false}
+use mathlib.Core.List.{List, [], ◌∷◌, append_assoc}
 use Prim.Native.Nat.{ℕ, zero, suc, ◌+◌, ◌-◌, ◌*◌, ◌/◌, ◌%◌, ◌^◌, ◌≤◌, ◌<◌}
-use native.Mathlib.Numerals.{add-one}
 use native.Mathlib.Omega.{arith}
-use lib.Dec.{T, ltb}
-use lib.IntN.{ℤ, pos, negsuc, nat_abs}
-use lib.ListN.{length, take, drop, set, get_or, drop_of_length-le, length-set}
-use lib.Seq.{drop-cons, take-suc-set, take_all}
-use lib.Signed.{le_z, mag, non_neg}
-use borrow.Author.Tests.{leb-false, ltb-false, lt-ltb, le-ltb}
+use lib.Dec.{ltb}
+use lib.IntN.{ℤ, pos, negsuc}
+use lib.ListN.{length, take, set, get_or, length-set}
+use lib.Seq.{take_all}
+use lib.Signed.{mag}
+use borrow.Author.Tests.{ltb-false, lt-ltb, le-ltb}
 use mir.Syntax.{w16}
-use mir.Val.{to_z, of_z, sel, Fits, SFits}
-use mir.ValLaws.{to_z_pos}
+use mir.Val.{to_z, of_z, SFits}
+use Rattle.std.proofs.lemmas.List.{take_more, take_more_set}
+use Rattle.std.specs.Int.{to_le_bytes}
 use Rattle.lists.specs.Lists.{at, minus}
 use Rattle.lists.proofs.Signed.{back}
 use Rattle.coding.specs.Bytes.{signed16, bits16, unsigned, words, bytes_of, Bytes}
+use Rattle.coding.proofs.Words.{words_length}
+use Rattle.coding.proofs.Laid.{bytes_append}
 
 -- ---- one number
-chosen : (b : Bool) (x y z : ℤ) → y ≡ z → sel b x y ≡ cond b x z
-chosen true x y z e = refl
-chosen false x y z e = e
+pub bits_is : (z : ℤ) → mag z < 2 ^ 15 → of_z w16 z ≡ bits16 z
+bits_is (pos n) h = refl
+bits_is (negsuc n) h = omega arith
 
-pub signed_is : (n : ℕ) → n < 65536 → to_z w16 n ≡ signed16 n
-signed_is n h =
-    let e : suc (65535 - n) ≡ 65536 - n = omega arith in
-    let k : 65536 - suc n ≡ 65535 - n = omega arith in
-    chosen (ltb n 32768) (pos n) (negsuc (65536 - suc n)) (minus (65536 - n)) (ap negsuc k ∙ ap minus e)
+bits_high : (z : ℤ) → mag z < 2 ^ 15 → bits16 z / 256 % 256 ≡ bits16 z / 256
+bits_high (pos n) h = omega arith
+bits_high (negsuc n) h = omega arith
 
-pub flipped_twice : (n : ℕ) → n < 65536 → to_z w16 (65535 - (65535 - n)) ≡ signed16 n
-flipped_twice n h = let e : 65535 - (65535 - n) ≡ n = omega arith in ap (to_z w16) e ∙ signed_is n h
+-- the two bytes that std gives for what a local has
+pub bytes_are : {r : List ℕ} (z : ℤ) → mag z < 2 ^ 15 → r ≡ to_le_bytes w16 (of_z w16 (to_z w16 (of_z w16 z))) → (get_or r 0 0 ≡ bits16 z % 256) × (get_or r 1 0 ≡ bits16 z / 256)
+bytes_are z h e =
+    rw (e, back w16 h, bits_is z h) (refl, bits_high z h)
 
-not_below : (z : ℤ) → mag z < 2 ^ 15 → le_z (pos 0) z ≡ true → (T (non_neg z) × Fits w16 (nat_abs z)) × (nat_abs z ≡ bits16 z)
-not_below (pos n) h e = ((tt, record { fits = omega arith }), refl)
-not_below (negsuc n) h e = let z : ◌≡◌ {A = ℕ} 0 1 = cc in absurd (omega arith)
+-- ---- bytes to numbers: one more number, and the last
+pub fill_more : (dst : List ℤ) (src : List ℕ) (i : ℕ) (x : ℤ) → length src ≡ 2 * length dst → i < length dst → x ≡ at (words src) i → take i dst ≡ take i (words src)
+    → take (i + 1) (set dst i x) ≡ take (i + 1) (words src)
+fill_more dst src i x l h e inv =
+    let k : i < length (words src) = rw (words_length src (length dst) l) h in
+    rw (take_more_set dst i x h, take_more (words src) i (pos 0) k, inv, e)
 
-below : (z : ℤ) → mag z < 2 ^ 15 → le_z (pos 0) z ≡ false → (to_z w16 (65535 - of_z w16 z) ≡ pos (mag z)) × (65535 - mag z ≡ bits16 z)
-below (pos n) h e = let z : n < 0 = leb-false 0 n e in absurd (omega arith)
-below (negsuc n) h e = let k : 65535 - (65536 - suc n) ≡ n = omega arith in (ap (to_z w16) k ∙ to_z_pos w16 n h, refl)
+pub fill_done : (dst : List ℤ) (src : List ℕ) (i : ℕ) → length src ≡ 2 * length dst → length dst ≤ i → take i dst ≡ take i (words src) → dst ≡ words src
+fill_done dst src i l h inv =
+    let k : length (words src) ≤ i = rw (words_length src (length dst) l) h in
+    sym (take_all i dst h) ∙ inv ∙ take_all i (words src) k
 
--- a cast of what the test let through: the test is of the number that is read back from its bits
-module _ (z : ℤ) (h : mag z < 2 ^ 15) where
-  pub cast_of : le_z (pos 0) (to_z w16 (of_z w16 z)) ≡ true
-      → (T (non_neg (to_z w16 (of_z w16 z))) × Fits w16 (nat_abs (to_z w16 (of_z w16 z)))) × (nat_abs (to_z w16 (of_z w16 z)) ≡ bits16 z)
-  cast_of e = rw (back w16 h) (not_below z h (rw (back w16 h) at e))
-
-  pub flipped_of : le_z (pos 0) (to_z w16 (of_z w16 z)) ≡ false → (to_z w16 (65535 - of_z w16 z) ≡ pos (mag z)) × (65535 - mag z ≡ bits16 z)
-  flipped_of e = below z h (rw (back w16 h) at e)
-
--- ---- lists, one element at a time, at the code's `i + 1`
-module _ {A : Type 0} where
-  drop_more : (l : List A) (j : ℕ) (d : A) → j < length l → drop j l ≡ get_or l j d ∷ drop (j + 1) l
-  drop_more l j d h = rw (add-one, drop-cons l j d)
-
-  take_more_set : (l : List A) (i : ℕ) (x : A) → i < length l → take (i + 1) (set l i x) ≡ take i l ++ (x ∷ [])
-  take_more_set l i x h = rw (add-one, take-suc-set l i x)
-
-  whole_then_nothing : (l : List A) (i : ℕ) → length l ≤ i → take i l ++ [] ≡ l
-  whole_then_nothing l i h = append-nil (take i l) ∙ take_all i l h
-
--- ---- bytes to numbers: what is filled, and the numbers of what is left, are the numbers of all
-words_step : (src : List ℕ) (j : ℕ) → j + 1 < length src → words (drop j src) ≡ signed16 (unsigned (get_or src j 0) (get_or src (j + 1) 0)) ∷ words (drop (j + 2) src)
-unfolding words
-words_step src j h =
-    let h₀ : j < length src = omega arith in
-    let e : j + 1 + 1 ≡ j + 2 = omega arith in
-    ap words (drop_more src j 0 h₀ ∙ ap (λ (l : List ℕ). get_or src j 0 ∷ l) (drop_more src (j + 1) 0 h ∙ ap (λ (n : ℕ). get_or src (j + 1) 0 ∷ drop n src) e))
-
-pub fill_more : (dst : List ℤ) (src : List ℕ) (i j : ℕ) (x : ℤ) → i < length dst → j + 1 < length src → x ≡ signed16 (unsigned (get_or src j 0) (get_or src (j + 1) 0))
-    → take i dst ++ words (drop j src) ≡ words src → take (i + 1) (set dst i x) ++ words (drop (j + 2) src) ≡ words src
-fill_more dst src i j x hi hj e inv =
-    rw (take_more_set dst i x hi)
-    (append_assoc (take i dst) (x ∷ []) (words (drop (j + 2) src))
-    ∙ ap (λ (l : List ℤ). take i dst ++ l) (ap (λ (z : ℤ). z ∷ words (drop (j + 2) src)) e ∙ sym (words_step src j hj))
-    ∙ inv)
-
-pub fill_done : (dst : List ℤ) (src : List ℕ) (i j : ℕ) → length dst ≤ i → length src ≤ j → take i dst ++ words (drop j src) ≡ words src → dst ≡ words src
-unfolding words
-fill_done dst src i j hi hj inv = sym (ap (λ (l : List ℕ). take i dst ++ words l) (drop_of_length-le src hj) ∙ whole_then_nothing dst i hi) ∙ inv
-
--- ---- numbers to bytes
-bytes_step : (src : List ℤ) (i : ℕ) → i < length src → bytes_of (drop i src) ≡ bits16 (at src i) % 256 ∷ bits16 (at src i) / 256 ∷ bytes_of (drop (i + 1) src)
+-- ---- numbers to bytes: one more number, and the last
+pub put_more : (dst : List ℕ) (src : List ℤ) (i x y : ℕ) → length dst ≡ 2 * length src → i < length src → x ≡ bits16 (at src i) % 256 → y ≡ bits16 (at src i) / 256
+    → take (2 * i) dst ≡ bytes_of (take i src) → take (2 * (i + 1)) (set (set dst (2 * i) x) (2 * i + 1) y) ≡ bytes_of (take (i + 1) src)
 unfolding bytes_of
-bytes_step src i h = ap bytes_of (drop_more src i (pos 0) h)
+put_more dst src i x y l h e f inv =
+    let j : 2 * i < length dst = omega (arith, l) in
+    let k : 2 * i + 1 < length (set dst (2 * i) x) = simp length-set (omega (arith, l)) in
+    let two : 2 * (i + 1) ≡ 2 * i + 1 + 1 = omega arith in
+    rw (two, take_more_set (set dst (2 * i) x) (2 * i + 1) y k, take_more_set dst (2 * i) x j, take_more src i (pos 0) h, bytes_append (take i src) (at src i ∷ []), inv, e, f)
+    (append_assoc (bytes_of (take i src)) (bits16 (at src i) % 256 ∷ []) (bits16 (at src i) / 256 ∷ []))
 
-pub put_more : (dst : List ℕ) (src : List ℤ) (i j n : ℕ) → i < length src → j + 1 < length dst → n ≡ bits16 (at src i)
-    → take j dst ++ bytes_of (drop i src) ≡ bytes_of src → take (j + 2) (set (set dst j (n % 256)) (j + 1) (n / 256)) ++ bytes_of (drop (i + 1) src) ≡ bytes_of src
-put_more dst src i j n h k e inv =
-    let k₀ : j < length dst = omega arith in
-    let k₁ : j + 1 < length (set dst j (n % 256)) = simp length-set (omega arith) in
-    let two : j + 2 ≡ j + 1 + 1 = omega arith in
-    rw (two, take_more_set (set dst j (n % 256)) (j + 1) (n / 256) k₁, take_more_set dst j (n % 256) k₀, append_assoc (take j dst) (n % 256 ∷ []) (n / 256 ∷ []))
-    (append_assoc (take j dst) (n % 256 ∷ n / 256 ∷ []) (bytes_of (drop (i + 1) src))
-    ∙ ap (λ (l : List ℕ). take j dst ++ l) (ap (λ (m : ℕ). m % 256 ∷ m / 256 ∷ bytes_of (drop (i + 1) src)) e ∙ sym (bytes_step src i h))
-    ∙ inv)
-
-pub put_done : (dst : List ℕ) (src : List ℤ) (i j : ℕ) → length src ≤ i → length dst ≤ j → take j dst ++ bytes_of (drop i src) ≡ bytes_of src → dst ≡ bytes_of src
-unfolding bytes_of
-put_done dst src i j hi hj inv = sym (ap (λ (l : List ℤ). take j dst ++ bytes_of l) (drop_of_length-le src hi) ∙ whole_then_nothing dst j hj) ∙ inv
+pub put_done : (dst : List ℕ) (src : List ℤ) (i : ℕ) → length dst ≡ 2 * length src → length src ≤ i → take (2 * i) dst ≡ bytes_of (take i src) → dst ≡ bytes_of src
+put_done dst src i l h inv =
+    let k : length dst ≤ 2 * i = omega (arith, l) in
+    sym (take_all (2 * i) dst k) ∙ inv ∙ ap bytes_of (take_all i src h)
 
 -- a number that went through a local
 pub one_put : {y : List ℕ} (z : ℤ) → mag z < 2 ^ 15 → y ≡ bytes_of (to_z w16 (of_z w16 z) ∷ []) → y ≡ bytes_of (z ∷ [])

@@ -44,3 +44,7 @@ bytes_joined (x ∷ xs) = bytes_append x (joined xs) ∙ ap (λ (l : List ℕ). 
 -- the bytes of each part, laid from the front, are those of all
 pub laid_parts : (ns : List ℕ) (xs : List (List ℤ)) (ys : List (List ℕ)) (out : List ℕ) → length out ≡ total ns → Counted ns ys → ys ≡ map bytes_of xs → lay 0 ns ys out ≡ bytes_of (joined xs)
 laid_parts ns xs ys out h c e = lay_more 0 ns ys (laid_none (total ns) out h) refl c (omega arith) ∙ ap joined e ∙ sym (bytes_joined xs)
+
+-- the same where they are joined
+pub bytes_parts : (xs : List (List ℤ)) (ys : List (List ℕ)) (out : List ℕ) → out ≡ joined ys → ys ≡ map bytes_of xs → out ≡ bytes_of (joined xs)
+bytes_parts xs ys out o e = o ∙ ap joined e ∙ sym (bytes_joined xs)

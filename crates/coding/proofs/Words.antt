@@ -1,13 +1,14 @@
 -- A part of bytes is a part of their numbers. Assumes nothing.
-use mathlib.Core.Path.{◌≡◌, refl, ap, ap₂, ◌∙◌}
+use mathlib.Core.Path.{◌≡◌, refl, ap, ap₂, sym, ◌∙◌}
 use mathlib.Core.List.{List, [], ◌∷◌, map}
-use Prim.Native.Nat.{ℕ, zero, suc, ◌+◌, ◌*◌, ◌<◌}
+use Prim.Native.Nat.{ℕ, zero, suc, ◌+◌, ◌*◌, ◌/◌, ◌<◌}
 use native.Mathlib.Omega.{arith}
 use lib.IntN.{ℤ}
 use lib.ListN.{length, take, drop, get_or}
+use Rattle.std.specs.Simd.{first_chunks}
 use Rattle.lists.specs.Lists.{at}
-use Rattle.lists.specs.Parts.{cut}
-use Rattle.lists.proofs.Parts.{stretches, stretches_cut}
+use Rattle.lists.specs.Parts.{joined, cut}
+use Rattle.lists.proofs.Parts.{Counted, cut_joined}
 use Rattle.coding.specs.Bytes.{signed16, unsigned, words}
 
 -- two bytes for each number
@@ -25,12 +26,13 @@ words_split (suc n) (x ∷ []) = rw (twice n) (refl, refl)
 words_split (suc n) (x ∷ y ∷ b) = let h = words_split n b in rw (twice n) (ap (λ (l : List ℤ). signed16 (unsigned x y) ∷ l) h.0, h.1)
 
 -- the numbers of the parts of bytes are the parts of their numbers
-pub words_cut : (ns : List ℕ) (b : List ℕ) → map words (stretches 0 (doubled ns) b) ≡ cut ns (words b)
-words_cut ns b = ap (map words) (stretches_cut 0 (doubled ns) b) ∙ go ns b
-  where
-    go : (ns : List ℕ) (b : List ℕ) → map words (cut (doubled ns) b) ≡ cut ns (words b)
-    go [] b = refl
-    go (n ∷ ns) b = let h = words_split n b in rw (h.0, ← h.1, go ns (drop (2 * n) b))
+pub words_cut : (ns : List ℕ) (b : List ℕ) → map words (cut (doubled ns) b) ≡ cut ns (words b)
+words_cut [] b = refl
+words_cut (n ∷ ns) b = let h = words_split n b in rw (h.0, ← h.1, words_cut ns (drop (2 * n) b))
+
+-- bytes that are parts, one after another: the numbers of each
+pub words_parts : (ns : List ℕ) (ps : List (List ℕ)) (b : List ℕ) → b ≡ joined ps → Counted (doubled ns) ps → map words ps ≡ cut ns (words b)
+words_parts ns ps b e c = ap (map words) (sym (ap (cut (doubled ns)) e ∙ cut_joined (doubled ns) ps c)) ∙ words_cut ns b
 
 pub at_words : (b : List ℕ) (k : ℕ) → 2 * k + 1 < length b → signed16 (unsigned (get_or b (2 * k) 0) (get_or b (2 * k + 1) 0)) ≡ at (words b) k
 unfolding words
@@ -40,3 +42,25 @@ at_words (x ∷ y ∷ b) zero h = refl
 at_words (x ∷ y ∷ b) (suc k) h =
     let e : 2 * suc k + 1 ≡ suc (suc (2 * k + 1)) = omega arith in
     ap₂ (λ (i j : ℕ). signed16 (unsigned (get_or (x ∷ y ∷ b) i 0) (get_or (x ∷ y ∷ b) j 0))) (twice k) e ∙ at_words b k (omega arith)
+
+-- a number for each two bytes
+pub words_length : (b : List ℕ) (n : ℕ) → length b ≡ 2 * n → length (words b) ≡ n
+unfolding words
+words_length [] n e = omega (arith, e)
+words_length (x ∷ []) n e = absurd (omega (arith, e))
+words_length (x ∷ y ∷ b) zero e = absurd (omega (arith, e))
+words_length (x ∷ y ∷ b) (suc n) e = ap suc (words_length b n (omega (arith, e)))
+
+first_pairs : (n : ℕ) (b : List ℕ) (i : ℕ) → length b ≡ 2 * n → i < n
+    → signed16 (unsigned (get_or (get_or (first_chunks 2 n b) i []) 0 0) (get_or (get_or (first_chunks 2 n b) i []) 1 0)) ≡ at (words b) i
+unfolding words
+first_pairs zero b i e h = absurd (omega arith)
+first_pairs (suc n) [] i e h = absurd (omega (arith, e))
+first_pairs (suc n) (x ∷ []) i e h = absurd (omega (arith, e))
+first_pairs (suc n) (x ∷ y ∷ b) zero e h = refl
+first_pairs (suc n) (x ∷ y ∷ b) (suc i) e h = first_pairs n b i (omega (arith, e)) (omega arith)
+
+-- the number of pair i
+pub at_pairs : (ps : List (List ℕ)) (b : List ℕ) (n i : ℕ) → ps ≡ first_chunks 2 (length b / 2) b → length b ≡ 2 * n → i < n
+    → signed16 (unsigned (get_or (get_or ps i []) 0 0) (get_or (get_or ps i []) 1 0)) ≡ at (words b) i
+at_pairs ps b n i p e h = let k : length b / 2 ≡ n = omega (arith, e) in rw (p, k) (first_pairs n b i e h)

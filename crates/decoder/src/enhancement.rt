@@ -3,6 +3,7 @@ ghost use Rattle.std.specs.Prelude.{◌≡◌};
 ghost use Rattle.decoder.specs.Enhance.{enhanced_at, enhanced, first_excitation};
 
 use basicop::{Q14, Q15};
+use std::array;
 
 // A sample of the enhanced excitation.
 fn enhanced_sample(feedback: i16, adaptive: i16, doubled: Q15, pitch: Q14) -> i16
@@ -15,11 +16,7 @@ fn enhanced_sample(feedback: i16, adaptive: i16, doubled: Q15, pitch: Q14) -> i1
 fn enhanced(feedback: [i16; 40], adaptive: [i16; 40], doubled: Q15, pitch: Q14) -> [i16; 40]
     ensures { result ≡ enhanced doubled.0 pitch.0 feedback adaptive }
 {
-    let mut r = feedback;
-    for i in 0..40 {
-        r[i] = enhanced_sample(feedback[i], adaptive[i], doubled, pitch);
-    }
-    r
+    array::from_fn(|i| enhanced_sample(feedback[i], adaptive[i], doubled, pitch))
 }
 
 // The first excitation of the synthesis.

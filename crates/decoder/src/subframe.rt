@@ -7,6 +7,7 @@ ghost use Rattle.decoder.specs.Core.{excitations, subframe_result, subframe_outp
 use super::enhancement::first_excitation;
 use super::{Core, Excitations, Parameters, SubframeOutput, SynthesisOutput};
 use basicop::Q14;
+use synthesis::{Filtered, Output};
 
 // Syn_filt on the first excitation; where a step clamps, feedback and past are quartered and it runs again on that feedback.
 fn synthesise(
@@ -18,15 +19,13 @@ fn synthesise(
 ) -> SynthesisOutput
     ensures { result ≡ synthesis_output (synthesis_result (record { row = row; feedback = feedback; excitation = excitation }) history past) }
 {
-    let first = synthesis::preview(row, excitation, history);
-    let place = first.place;
+    let Output { samples, place } = synthesis::preview(row, excitation, history);
     if place < 40 {
         let mut quarter = feedback;
         basicop::quarter(&mut quarter);
         let mut quarter_past = past;
         basicop::quarter(&mut quarter_past);
-        let again = synthesis::filter(row, quarter, history);
-        let samples = again.samples;
+        let Filtered { samples, .. } = synthesis::filter(row, quarter, history);
         return SynthesisOutput {
             place,
             samples,
@@ -34,7 +33,6 @@ fn synthesise(
             past: excitation::take_in(quarter_past, quarter),
         };
     }
-    let samples = first.samples;
     SynthesisOutput {
         place,
         samples,
@@ -48,13 +46,10 @@ fn excite(past: [i16; 154], sharpening: Q14, p: Parameters) -> Excitations
     requires { UsableSubframe (subframe_of p) }
     ensures { result ≡ (excitations past sharpening.0 (subframe_of p)).value }
 {
-    let lag = p.lag;
-    let pitch = p.pitch;
-    let adaptive = adaptive::predict(past, lag);
-    let innovation = p.innovation;
-    let code = excitation::sharpen(innovation, lag.samples as usize, sharpening);
-    let feedback = excitation::feedback(adaptive, code, pitch, p.code);
-    let excitation = first_excitation(adaptive, pitch, feedback);
+    let adaptive = adaptive::predict(past, p.lag);
+    let code = excitation::sharpen(p.innovation, p.lag.samples as usize, sharpening);
+    let feedback = excitation::feedback(adaptive, code, p.pitch, p.code);
+    let excitation = first_excitation(adaptive, p.pitch, feedback);
     Excitations {
         feedback,
         excitation,
@@ -62,29 +57,30 @@ fn excite(past: [i16; 154], sharpening: Q14, p: Parameters) -> Excitations
 }
 
 // The subframe step.
-pub fn decode_subframe(core: Core, row: [i16; 11], p: Parameters) -> SubframeOutput
+pub fn decode_subframe(core: &Core, row: [i16; 11], p: Parameters) -> SubframeOutput
     requires { UsableSubframe (subframe_of p) }
-    ensures { result ≡ subframe_output (subframe_result core row (subframe_of p)) }
+    ensures { result ≡ subframe_output (subframe_result core.now row (subframe_of p)) }
 {
-    let past = core.past;
-    let e = excite(past, core.sharpening, p);
-    let feedback = e.feedback;
-    let excitation = e.excitation;
-    let history = core.history;
-    let s = synthesise(row, feedback, excitation, history, past);
-    let samples = s.samples;
-    let lsp = core.lsp;
-    let after = s.past;
+    let Excitations {
+        feedback,
+        excitation,
+    } = excite(core.past, core.sharpening, p);
+    let SynthesisOutput {
+        place,
+        samples,
+        past,
+        ..
+    } = synthesise(row, feedback, excitation, core.history, core.past);
     let sharpening = excitation::next_sharpening(p.pitch);
-    let newest = synthesis::newest(samples);
+    let history = synthesis::newest(samples);
     SubframeOutput {
-        place: s.place,
+        place,
         samples,
         next: Core {
-            lsp,
-            past: after,
+            past,
             sharpening,
-            history: newest,
+            history,
+            ..*core
         },
     }
 }

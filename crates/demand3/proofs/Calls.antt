@@ -10,7 +10,7 @@ use Rattle.basicop.specs.Divided.{Divides}
 use Rattle.basicop.proofs.Ints.{arith_ℤ}
 use Rattle.decoder.specs.Inputs.{FrameInputs, Usable}
 use Rattle.state.specs.declared.State.{State}
-use Rattle.outcome.specs.declared.Outcome.{Outcome}
+use Rattle.outcome.specs.Outcome.{Outcome}
 use Rattle.state.specs.State.{WellFormed}
 use Rattle.state.proofs.Checks.{InRange}
 use Rattle.mr74.specs.Frame.{Trace, accepted_trace}

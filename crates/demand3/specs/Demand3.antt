@@ -1,12 +1,11 @@
 -- Demand 3: a single claim about a list of frame calls, from an opening state. The theorem is `demand_3` in proofs/Demand3.antt.
-use Rattle.std.specs.Prelude.{◌≡◌, true, false, List, [], ◌∷◌, map, ◌≤◌, ℤ, pos, negsuc, length, ◌≤ℤ◌}
+use Rattle.std.specs.Prelude.{◌≡◌, Ok, true, false, List, [], ◌∷◌, map, ◌≤◌, ℤ, pos, negsuc, length, ◌≤ℤ◌}
 use Rattle.lists.specs.Lists.{Every}
 use Rattle.basicop.specs.Ops.{Quotient}
 use Rattle.synthesis.specs.Whole.{whole_samples, retried, retried_at}
 use Rattle.decoder.specs.Subframe.{SynthesisInput, SynthesisResult, flag_of}
 use Rattle.decoder.specs.Core.{SubframeResult}
 use Rattle.state.specs.declared.State.{State}
-use Rattle.outcome.specs.declared.Outcome.TheVariants.{Accepted}
 use Rattle.state.specs.State.{WellFormed, state_outcome}
 use Rattle.mr74.specs.Frame.{Trace}
 use Rattle.calls.specs.Calls.{Call, trace_of, next_state, run_calls, state_after, accepted, any_accepted, latest_place}
@@ -97,4 +96,4 @@ pub record Demand3 (s : State) (cs : List Call) : Type 0 where
 -- "accepted" is the demand's own word, and stands here for the reader: the proof does not need it (`demand_3_any` has the claim without it), since from
 -- a state that is turned back no call is accepted
 abbrev pub Demand3Holds : Type 0
-Demand3Holds = (s : State) → WellFormed s → state_outcome s ≡ Accepted → (cs : List Call) → Demand3 s cs
+Demand3Holds = (s : State) → WellFormed s → state_outcome s ≡ Ok tt → (cs : List Call) → Demand3 s cs

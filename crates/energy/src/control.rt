@@ -17,14 +17,14 @@ fn smooth(gain: Q12, goal: Q12) -> Q12
 fn smoothed(samples: [i16; 40], gain: Q12, goal: Q12) -> Controlled
     ensures { result ≡ controlled goal.0 gain.0 samples }
 {
-    let mut r = samples;
+    let mut scaled = samples;
     let mut previous = gain;
-    for i in 0..40 {
+    for sample in &mut scaled {
         previous = smooth(previous, goal);
-        r[i] = scale(samples[i], previous);
+        *sample = scale(*sample, previous);
     }
     Controlled {
-        samples: r,
+        samples: scaled,
         control: GainControl {
             previous_gain: previous.0,
         },

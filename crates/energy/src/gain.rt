@@ -7,6 +7,7 @@ ghost use Rattle.energy.specs.Gain.{gain_out, gain_in, ratio, energy_gain, scale
 use crate::root::inverse_sqrt;
 use crate::sum::energy;
 use basicop::{Q12, div_s, extract_h, l_mult, l_shl, l_shr, norm_l, round, sub};
+use std::array;
 
 // a number, shifted and rounded to its high word
 fn rounded(value: i32, shift: i16) -> i16
@@ -57,11 +58,7 @@ pub fn scale(sample: i16, gain: Q12) -> i16
 fn scaled(samples: [i16; 40], gain: Q12) -> [i16; 40]
     ensures { result ≡ map (scaled_by gain.0) samples }
 {
-    let mut r = samples;
-    for i in 0..40 {
-        r[i] = scale(samples[i], gain);
-    }
-    r
+    array::from_fn(|i| scale(samples[i], gain))
 }
 
 // agc2: the output, brought to the energy of the input.

@@ -17,8 +17,8 @@ pub fn squares(samples: &[i16]) -> i32
     ensures { result ≡ squares samples.now }
 {
     let mut sum: u64 = 0;
-    for i in 0..samples.len() {
-        sum += doubled_square(samples[i]);
+    for sample in samples {
+        sum += doubled_square(*sample);
     }
     clamp32(sum as i64)
 }

@@ -6,7 +6,7 @@ ghost use Rattle.basicop.specs.Ops.{add, mult};
 ghost use Rattle.excitation.specs.Excitation.{sharpened, sharpening, feedback_at, feedback, taking};
 
 use basicop::{Q1, Q13, Q14, Q15};
-use copy::copy;
+use std::array;
 
 // A sample of the sharpened innovation, from the one a lag before it.
 fn sharper(code: i16, before: i16, doubled: Q15) -> i16
@@ -22,10 +22,8 @@ pub fn sharpen(innovation: Q13, lag: usize, sharpening: Q14) -> Q13
 {
     let doubled = basicop::doubled(sharpening);
     let mut code = innovation.0;
-    let mut i = lag;
-    while i < 40 {
+    for i in lag..40 {
         code[i] = sharper(code[i], code[i - lag], doubled);
-        i += 1;
     }
     Q13(code)
 }
@@ -34,10 +32,7 @@ pub fn sharpen(innovation: Q13, lag: usize, sharpening: Q14) -> Q13
 pub fn next_sharpening(pitch: Q14) -> Q14
     ensures { result.0 ≡ sharpening pitch.0 }
 {
-    if 13017 < pitch.0 {
-        return Q14(13017);
-    }
-    pitch
+    Q14(pitch.0.min(13017))
 }
 
 // A sample of the feedback.
@@ -52,20 +47,13 @@ fn fed_back(adaptive: i16, innovation: i16, pitch: Q14, code: Q1) -> i16
 pub fn feedback(adaptive: [i16; 40], innovation: Q13, pitch: Q14, code: Q1) -> [i16; 40]
     ensures { result ≡ feedback adaptive pitch.0 innovation.0 code.0 }
 {
-    let numbers = innovation.0;
-    let mut r = [0i16; 40];
-    for i in 0..40 {
-        r[i] = fed_back(adaptive[i], numbers[i], pitch, code);
-    }
-    r
+    let Q13(numbers) = innovation;
+    array::from_fn(|i| fed_back(adaptive[i], numbers[i], pitch, code))
 }
 
 // The past takes in a subframe, its oldest forty leaving.
 pub fn take_in(past: [i16; 154], feedback: [i16; 40]) -> [i16; 154]
     ensures { result ≡ taking past feedback }
 {
-    let mut r = past;
-    copy(&mut r[0..114], &past[40..154]);
-    copy(&mut r[114..154], &feedback);
-    r
+    copy::joined(&past[40..], &feedback)
 }

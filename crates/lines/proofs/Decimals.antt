@@ -1,7 +1,7 @@
 -- The decimal digits of a number: those before the last, and the last; how many there are. Assumes nothing.
-use mathlib.Core.Path.{◌≡◌, refl, ap}
+use mathlib.Core.Path.{◌≡◌, refl, ap, sym, ◌∙◌}
 use mathlib.Core.Bool.{Bool, true, false, cond}
-use mathlib.Core.List.{List, [], ◌∷◌, ◌++◌}
+use mathlib.Core.List.{List, [], ◌∷◌, ◌++◌, append_assoc}
 use Prim.Native.Nat.{ℕ, zero, suc, ◌+◌, ◌^◌, ◌/◌, ◌%◌, ◌<◌, ◌≤◌}
 use native.Mathlib.Omega.{arith}
 use native.Mathlib.Nat.{pow-suc}
@@ -45,3 +45,10 @@ at_most (suc k) n h = one_more (suc k) n (λ (g : 10 ≤ n). at_most k (n / 10) 
 
 pub u64_digits : (n : ℕ) → n < 2 ^ 64 → length (decimal n) ≤ 20
 u64_digits n h = at_most 19 n (omega (arith, h))
+
+-- ---- digits put after bytes: one alone, and the last after the others
+pub last_alone : (xs ys : List ℕ) (n : ℕ) → n < 10 → ys ≡ xs ++ (digit (n % 10) ∷ []) → ys ≡ xs ++ decimal n
+last_alone xs ys n h e = e ∙ ap (λ (l : List ℕ). xs ++ l) (ap (λ (d : ℕ). digit d ∷ []) (omega arith) ∙ sym (decimal_small n h))
+
+pub last_after : (xs ys zs : List ℕ) (n : ℕ) → 10 ≤ n → ys ≡ xs ++ decimal (n / 10) → zs ≡ ys ++ (digit (n % 10) ∷ []) → zs ≡ xs ++ decimal n
+last_after xs ys zs n h e f = f ∙ ap (λ (l : List ℕ). l ++ (digit (n % 10) ∷ [])) e ∙ append_assoc xs (decimal (n / 10)) (digit (n % 10) ∷ []) ∙ ap (λ (l : List ℕ). xs ++ l) (sym (decimal_large n h))

@@ -7,18 +7,14 @@ use native.Mathlib.Omega.{arith}
 use lib.IntN.{ℤ, pos}
 use lib.ListN.{length}
 use lib.Signed.{lt_z, ◌≤ℤ◌, ◌<ℤ◌}
+use Rattle.std.specs.Int.{int_max}
+use Rattle.std.proofs.lemmas.Int.{int_max_is}
 use Rattle.lists.specs.Lists.{at}
 use Rattle.basicop.proofs.Ints.{eq_in, arith_ℤ}
 use Rattle.basicop.proofs.Tests.{less_yes, less_no}
 use Rattle.lines.specs.Lines.{larger, largest}
 
 -- ---- the larger of two
-pub larger_right : (a b : ℤ) → lt_z a b ≡ true → b ≡ larger a b
-larger_right a b e = rw e
-
-pub larger_left : (a b : ℤ) → lt_z a b ≡ false → a ≡ larger a b
-larger_left a b e = rw e
-
 -- what holds of either where it is the larger holds of the larger
 pub larger_by : (P : ℤ → Type 0) (a b : ℤ) → (a <ℤ b → P b) → (b ≤ℤ a → P a) → P (larger a b)
 larger_by P a b f g = go (lt_z a b) refl
@@ -26,6 +22,10 @@ larger_by P a b f g = go (lt_z a b) refl
     go : (t : Bool) → lt_z a b ≡ t → P (cond t b a)
     go true e = f (less_yes e)
     go false e = g (less_no e)
+
+-- std's `max`
+pub max_is_larger : (a b : ℤ) → int_max a b ≡ larger a b
+max_is_larger a b = larger_by (λ (z : ℤ). int_max a b ≡ z) a b (λ h. eq_in _ _ (omega (arith_ℤ, int_max_is a b))) (λ h. eq_in _ _ (omega (arith_ℤ, int_max_is a b)))
 
 larger_over : (a b : ℤ) → (a ≤ℤ larger a b) × (b ≤ℤ larger a b)
 larger_over a b = larger_by (λ (z : ℤ). (a ≤ℤ z) × (b ≤ℤ z)) a b (λ h. (omega arith_ℤ, omega arith_ℤ)) (λ h. (omega arith_ℤ, omega arith_ℤ))

@@ -1,32 +1,42 @@
--- The largest distance from zero, the mark by its tests, and both beside the largest sample; any of four flags. Assumes nothing.
+-- The largest distance from zero, the mark by its tests, and both beside the largest sample; any of the flags. Assumes nothing.
 use mathlib.Core.Path.{◌≡◌, refl, sym, ap, ◌∙◌, subst}
-use mathlib.Core.Bool.{Bool, true, false, ◌||◌}
+use mathlib.Core.Bool.{Bool, true, false, beq}
 use mathlib.Core.List.{List, [], ◌∷◌, map, foldl}
 use Prim.Native.Nat.{ℕ, zero, suc, ◌<◌, ◌≤◌}
 use native.Mathlib.Omega.{arith}
 use lib.IntN.{ℤ, pos, negsuc, neg_ℤ, nat_abs}
-use lib.ListN.{length, length-map, get_or}
+use lib.ListN.{length, length-map}
 use lib.Signed.{lt_z, ◌≤ℤ◌, ◌<ℤ◌}
 use mir.Syntax.{w16}
 use mir.Val.{SFits}
+use Rattle.std.specs.Int.{int_max}
+use Rattle.std.specs.List.{list_any, fold}
 use Rattle.lists.specs.Lists.{at, minus}
 use Rattle.lists.proofs.Entries.{at_map}
 use Rattle.basicop.proofs.Ints.{neg_up, neg_dn, arith_ℤ}
 use Rattle.basicop.proofs.Range.{nat_abs_in, nat_abs_is}
 use Rattle.basicop.proofs.Tests.{yes_less, no_less}
-use Rattle.lines.specs.Lines.{larger, largest, distance, peak_of, any_of, mark_of, flag_digit, integer}
+use Rattle.lines.specs.Lines.{larger, largest, distance, peak_of, any_of, mark_of, integer}
 use Rattle.lines.specs.Peaks.{PeakSides, PeakUnsigned, MarkSides}
-use Rattle.lines.proofs.Largest.{larger_by, larger_four, largest_keeps, largest_over}
+use Rattle.lines.proofs.Largest.{max_is_larger, larger_by, larger_four, largest_keeps, largest_over}
 
 -- ---- the peak
 -- the fold may begin with 0
 first_distance : (x : ℤ) → larger (pos 0) (distance x) ≡ distance x
 first_distance x = larger_by (λ (z : ℤ). z ≡ distance x) (pos 0) (distance x) (λ h. refl) (λ h. ap pos (omega (arith_ℤ, h)))
 
-pub peak_from_zero : (xs : List ℤ) → foldl larger (pos 0) (map distance xs) ≡ peak_of xs
+peak_from_zero : (xs : List ℤ) → foldl larger (pos 0) (map distance xs) ≡ peak_of xs
 unfolding peak_of largest
 peak_from_zero [] = refl
 peak_from_zero (x ∷ xs) = ap (λ (z : ℤ). foldl larger z (map distance xs)) (first_distance x)
+
+fold_larger : (a : ℤ) (xs : List ℤ) → fold (λ m x. int_max m (pos (nat_abs x))) a xs ≡ foldl larger a (map distance xs)
+fold_larger a [] = refl
+fold_larger a (x ∷ xs) = ap (λ (z : ℤ). fold (λ m x. int_max m (pos (nat_abs x))) z xs) (max_is_larger a (distance x)) ∙ fold_larger (larger a (distance x)) xs
+
+-- as the code folds it
+pub peak_folded : (xs : List ℤ) → fold (λ m x. int_max m (pos (nat_abs x))) (pos 0) xs ≡ peak_of xs
+peak_folded xs = fold_larger (pos 0) xs ∙ peak_from_zero xs
 
 -- what holds of 0 and of every entry's distance holds of the peak
 peak_keeps : (P : ℤ → Type 0) → P (pos 0) → (xs : List ℤ) → ((i : ℕ) → P (distance (at xs i))) → P (peak_of xs)
@@ -106,27 +116,9 @@ mark_sides samples flags =
     far : (i : ℕ) → i < length samples → at samples i ≤ℤ minus 32760 → pos 32760 ≤ℤ peak_of samples
     far i h l = omega (arith_ℤ, peak_over samples i h, distance_from (at samples i) l)
 
--- ---- four flags
-four : (a b c d : Bool) → (((a || b) || c) || d) ≡ (a || (b || (c || (d || false))))
-four true b c d = refl
-four false true c d = refl
-four false false true d = refl
-four false false false true = refl
-four false false false false = refl
-
-pub any_four : (fs : List Bool) → length fs ≡ 4 → (((get_or fs 0 false || get_or fs 1 false) || get_or fs 2 false) || get_or fs 3 false) ≡ any_of fs
+-- ---- the flags
+pub any_listed : (flags : List Bool) → list_any (λ (flag : Bool). beq flag true) flags ≡ any_of flags
 unfolding any_of
-any_four [] h = absurd (omega (arith, h))
-any_four (a ∷ []) h = absurd (omega (arith, h))
-any_four (a ∷ b ∷ []) h = absurd (omega (arith, h))
-any_four (a ∷ b ∷ c ∷ []) h = absurd (omega (arith, h))
-any_four (a ∷ b ∷ c ∷ d ∷ []) h = four a b c d
-any_four (a ∷ b ∷ c ∷ d ∷ e ∷ r) h = absurd (omega (arith, h))
-
-pub digits_four : (fs : List Bool) → length fs ≡ 4 → flag_digit (get_or fs 0 false) ∷ flag_digit (get_or fs 1 false) ∷ flag_digit (get_or fs 2 false) ∷ flag_digit (get_or fs 3 false) ∷ [] ≡ map flag_digit fs
-digits_four [] h = absurd (omega (arith, h))
-digits_four (a ∷ []) h = absurd (omega (arith, h))
-digits_four (a ∷ b ∷ []) h = absurd (omega (arith, h))
-digits_four (a ∷ b ∷ c ∷ []) h = absurd (omega (arith, h))
-digits_four (a ∷ b ∷ c ∷ d ∷ []) h = refl
-digits_four (a ∷ b ∷ c ∷ d ∷ e ∷ r) h = absurd (omega (arith, h))
+any_listed [] = refl
+any_listed (true ∷ flags) = refl
+any_listed (false ∷ flags) = any_listed flags

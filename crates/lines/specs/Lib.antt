@@ -1,3 +1,3 @@
 pub mod Lines
 pub mod Peaks
-pub mod Put
+pub mod Room

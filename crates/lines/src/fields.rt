@@ -1,89 +1,104 @@
-// The fields of a line. What is put comes after the first `at` bytes, and the answer is where it ends.
-ghost use Rattle.std.specs.Prelude.{◌≡◌, [], ◌∷◌, map, ◌+◌, ◌<◌, ◌≤◌, nat_abs, length};
+// A line, and its fields: what is put comes after the bytes that are there.
+ghost use Rattle.std.specs.Prelude.{◌≡◌, [], ◌∷◌, ◌++◌, map, ◌+◌, ◌<◌, ◌≤◌, length};
 ghost use Rattle.lines.specs.Lines.{decimal, integer, flag_digit};
-ghost use Rattle.lines.specs.Put.{Put};
+ghost use Rattle.lines.specs.Room.{line_room};
 
-pub fn put_byte(out: &mut [u8], at: usize, byte: u8) -> usize
-    requires { at < length out.old }
-    ensures { Put out.old at (byte ∷ []) result out.new }
-{
-    out[at] = byte;
-    at + 1
+use std::marker::Model;
+
+// A line has room for so many bytes: more than any line of the programs has.
+pub const LINE_ROOM: usize = 128;
+
+// The bytes of a line, as far as it is made.
+#[derive(Drop)]
+pub struct Line {
+    bytes: [u8; LINE_ROOM],
+    count: usize,
 }
 
-pub fn put(out: &mut [u8], at: usize, bytes: &[u8]) -> usize
-    requires { at + length bytes.now ≤ length out.old }
-    ensures { Put out.old at bytes.now result out.new }
-{
-    let mut i = 0;
-    while i < bytes.len() {
-        out[at + i] = bytes[i];
-        i += 1;
+impl Model for Line {
+    ghost use Rattle.std.specs.Prelude.{List, ℕ, ◌≤◌, take};
+    ghost use Rattle.lines.specs.Room.{line_room};
+
+    ghost Value = { List ℕ };
+
+    ghost view = { λ l. take l.count l.bytes };
+
+    ghost invariant = { λ l. l.count ≤ line_room };
+}
+
+impl Line {
+    // The line of no bytes.
+    pub fn new() -> Line
+        ensures { result ≡ [] }
+    {
+        Line {
+            bytes: [0; LINE_ROOM],
+            count: 0,
+        }
     }
-    at + i
-}
 
-// The digits before the last, then the last.
-fn put_digits(out: &mut [u8], at: usize, n: u64) -> usize
-    requires { at + length (decimal n) ≤ length out.old }
-    ensures { Put out.old at (decimal n) result out.new }
-{
-    if n < 10 {
-        return put_byte(out, at, 48 + n as u8);
+    pub fn as_bytes(&self) -> &[u8]
+        ensures { result.now ≡ self.now }
+    {
+        &self.bytes[..self.count]
     }
-    let end = put_digits(out, at, n / 10);
-    put_byte(out, end, 48 + (n % 10) as u8)
-}
 
-pub fn put_decimal(out: &mut [u8], at: usize, n: u64) -> usize
-    requires { at + 20 ≤ length out.old }
-    ensures put { Put out.old at (decimal n) result out.new }
-    ensures within { result ≤ at + 20 }
-{
-    put_digits(out, at, n)
-}
-
-// The distance from zero.
-pub fn magnitude(x: i32) -> u64
-    ensures { result ≡ nat_abs x }
-{
-    if x < 0 {
-        (0 - (x as i64)) as u64
-    } else {
-        x as u64
+    pub fn push(&mut self, byte: u8)
+        requires { length self.old < line_room }
+        ensures { self.new ≡ self.old ++ byte ∷ [] }
+    {
+        self.bytes[self.count] = byte;
+        self.count += 1;
     }
-}
 
-// A minus sign where the number is negative, which no peak is, and the digits.
-pub fn put_integer(out: &mut [u8], at: usize, x: i32) -> usize
-    requires { at + 21 ≤ length out.old }
-    ensures put { Put out.old at (integer x) result out.new }
-    ensures within { result ≤ at + 21 }
-{
-    if x < 0 {
-        let end = put_byte(out, at, b'-');
-        return put_decimal(out, end, magnitude(x));
+    pub fn extend_from_slice(&mut self, bytes: &[u8])
+        requires { length self.old + length bytes.now ≤ line_room }
+        ensures { self.new ≡ self.old ++ bytes.now }
+    {
+        let end = self.count + bytes.len();
+        self.bytes[self.count..end].copy_from_slice(bytes);
+        self.count = end;
     }
-    put_decimal(out, at, magnitude(x))
-}
 
-fn flag_digit(flag: bool) -> u8
-    ensures { result ≡ flag_digit flag }
-{
-    if flag { b'1' } else { b'0' }
-}
+    // The digits before the last, then the last.
+    fn push_digits(&mut self, n: u64)
+        requires { length self.old + length (decimal n) ≤ line_room }
+        ensures { self.new ≡ self.old ++ decimal n }
+    {
+        if n >= 10 {
+            self.push_digits(n / 10);
+        }
+        self.push(b'0' + (n % 10) as u8);
+    }
 
-// The four flags, written together.
-pub fn put_flags(out: &mut [u8], at: usize, flags: [bool; 4]) -> usize
-    requires { at + 4 ≤ length out.old }
-    ensures put { Put out.old at (map flag_digit flags) result out.new }
-    ensures within { result ≤ at + 4 }
-{
-    let digits = [
-        flag_digit(flags[0]),
-        flag_digit(flags[1]),
-        flag_digit(flags[2]),
-        flag_digit(flags[3]),
-    ];
-    put(out, at, &digits)
+    // The digits of a number.
+    pub fn push_decimal(&mut self, n: u64)
+        requires { length self.old + 20 ≤ line_room }
+        ensures line { self.new ≡ self.old ++ decimal n }
+        ensures within { length self.new ≤ length self.old + 20 }
+    {
+        self.push_digits(n);
+    }
+
+    // A minus sign where the number is negative, which no peak is, and the digits.
+    pub fn push_integer(&mut self, x: i32)
+        requires { length self.old + 21 ≤ line_room }
+        ensures line { self.new ≡ self.old ++ integer x }
+        ensures within { length self.new ≤ length self.old + 21 }
+    {
+        if x < 0 {
+            self.push(b'-');
+        }
+        self.push_decimal(u64::from(x.unsigned_abs()));
+    }
+
+    // The four flags, written together.
+    pub(crate) fn push_flags(&mut self, flags: [bool; 4])
+        requires { length self.old + 4 ≤ line_room }
+        ensures { self.new ≡ self.old ++ map flag_digit flags }
+    {
+        for flag in flags {
+            self.push(b'0' + u8::from(flag));
+        }
+    }
 }

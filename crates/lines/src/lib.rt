@@ -1,68 +1,64 @@
 // The bench program's lines: decimal numbers, peak, mark, and each line as bytes.
 #![tactic(auto)]
 
-ghost use Rattle.std.specs.Prelude.{◌≡◌, length, take};
+ghost use Rattle.std.specs.Prelude.{◌≡◌};
 ghost use Rattle.lines.specs.Lines.{frame_line, refused_line, cut_line, state_line};
-ghost use Rattle.lines.specs.Put.{line_room, Within};
 
 mod fields;
 mod marks;
 
-use fields::put_flags;
-pub use fields::{put, put_byte, put_decimal, put_integer};
+pub use fields::{LINE_ROOM, Line};
 pub use marks::{mark, peak};
 
-// ---- lines
-// The bytes that are lent for a line.
-pub const LINE_ROOM: usize = 128;
-
-// Each is written at the front of the lent bytes, and the answer is its length.
 // An accepted sheet: its number, four flags, peak and mark.
-pub fn frame_line(out: &mut [u8], number: u64, flags: [bool; 4], peak: i32) -> usize
-    requires { length out.old ≡ line_room }
-    ensures line { take result out.new ≡ frame_line number flags peak }
-    ensures within { Within result out.new }
+#[tactic(auto, unfolding(crate::specs::Lines::frame_line))]
+pub fn frame_line(number: u64, flags: [bool; 4], peak: i32) -> Line
+    ensures { result ≡ frame_line number flags peak }
 {
-    let a = put_decimal(out, 0, number);
-    let b = put_byte(out, a, b' ');
-    let c = put_flags(out, b, flags);
-    let d = put_byte(out, c, b' ');
-    let e = put_integer(out, d, peak);
-    let rest = [b' ', mark(peak, flags), b'\n'];
-    put(out, e, &rest)
+    let mut line = Line::new();
+    line.push_decimal(number);
+    line.push(b' ');
+    line.push_flags(flags);
+    line.push(b' ');
+    line.push_integer(peak);
+    line.extend_from_slice(&[b' ', mark(peak, flags), b'\n']);
+    line
 }
 
 // A refused sheet: its number, `refused`, refusal and place.
-pub fn refused_line(out: &mut [u8], number: u64, refusal: u64, place: usize) -> usize
-    requires { length out.old ≡ line_room }
-    ensures line { take result out.new ≡ refused_line number refusal place }
-    ensures within { Within result out.new }
+#[tactic(auto, unfolding(crate::specs::Lines::refused_line))]
+pub fn refused_line(number: u64, refusal: u64, place: usize) -> Line
+    ensures { result ≡ refused_line number refusal place }
 {
-    let a = put_decimal(out, 0, number);
-    let b = put(out, a, b" refused ");
-    let c = put_decimal(out, b, refusal);
-    let d = put_byte(out, c, b' ');
-    let e = put_decimal(out, d, place as u64);
-    put_byte(out, e, b'\n')
+    let mut line = Line::new();
+    line.push_decimal(number);
+    line.extend_from_slice(b" refused ");
+    line.push_decimal(refusal);
+    line.push(b' ');
+    line.push_decimal(place as u64);
+    line.push(b'\n');
+    line
 }
 
 // A short last sheet: its number and `cut`.
-pub fn cut_line(out: &mut [u8], number: u64) -> usize
-    requires { length out.old ≡ line_room }
-    ensures line { take result out.new ≡ cut_line number }
-    ensures within { Within result out.new }
+#[tactic(auto, unfolding(crate::specs::Lines::cut_line))]
+pub fn cut_line(number: u64) -> Line
+    ensures { result ≡ cut_line number }
 {
-    let a = put_decimal(out, 0, number);
-    put(out, a, b" cut\n")
+    let mut line = Line::new();
+    line.push_decimal(number);
+    line.extend_from_slice(b" cut\n");
+    line
 }
 
 // A refused record: `state refused` and the refusal.
-pub fn state_line(out: &mut [u8], refusal: u64) -> usize
-    requires { length out.old ≡ line_room }
-    ensures line { take result out.new ≡ state_line refusal }
-    ensures within { Within result out.new }
+#[tactic(auto, unfolding(crate::specs::Lines::state_line))]
+pub fn state_line(refusal: u64) -> Line
+    ensures { result ≡ state_line refusal }
 {
-    let a = put(out, 0, b"state refused ");
-    let b = put_decimal(out, a, refusal);
-    put_byte(out, b, b'\n')
+    let mut line = Line::new();
+    line.extend_from_slice(b"state refused ");
+    line.push_decimal(refusal);
+    line.push(b'\n');
+    line
 }

@@ -1,31 +1,14 @@
 // Peak and mark of a frame.
 ghost use Rattle.std.specs.Prelude.{◌≡◌};
-ghost use Rattle.lines.specs.Lines.{larger, peak_of, any_of, mark_of};
-
-use crate::fields::magnitude;
-
-fn larger(a: i32, b: i32) -> i32
-    ensures { result ≡ larger a b }
-{
-    let less = a < b;
-    if less { b } else { a }
-}
+ghost use Rattle.lines.specs.Lines.{peak_of, mark_of};
 
 // The largest distance from zero among the samples: of -32768 it is 32768.
 pub fn peak(samples: [i16; 160]) -> i32
     ensures { result ≡ peak_of samples }
 {
-    let mut most = 0;
-    for i in 0..160 {
-        most = larger(most, magnitude(samples[i] as i32) as i32);
-    }
-    most
-}
-
-fn any(flags: [bool; 4]) -> bool
-    ensures { result ≡ any_of flags }
-{
-    flags[0] | flags[1] | flags[2] | flags[3]
+    samples
+        .iter()
+        .fold(0, |most: i32, x| most.max(i32::from(x.unsigned_abs())))
 }
 
 // L if the peak is 32760 or more; otherwise R if any flag; otherwise -.
@@ -33,9 +16,12 @@ pub fn mark(peak: i32, flags: [bool; 4]) -> u8
     ensures { result ≡ mark_of peak flags }
 {
     let quiet = peak < 32760;
-    if quiet {
-        if any(flags) { b'R' } else { b'-' }
-    } else {
+    let retried = flags.contains(&true);
+    if !quiet {
         b'L'
+    } else if retried {
+        b'R'
+    } else {
+        b'-'
     }
 }

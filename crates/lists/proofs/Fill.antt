@@ -6,7 +6,7 @@ use mathlib.Core.List.{List, ◌++◌}
 use native.Mathlib.Numerals.{add-one}
 use native.Mathlib.Omega.{arith}
 use lib.ListN.{length, set, take, length-set, length-append}
-use lib.Seq.{set-get_or, take_at, length-take-le, take-suc, take-suc-set, take_all}
+use lib.Seq.{set-get_or, get_or-set_other, take_at, length-take-le, take-suc, take-suc-set, take_all}
 use lib.IntN.{ℤ, pos}
 use Rattle.lists.specs.Lists.{at}
 
@@ -48,3 +48,20 @@ fill_on {m} {n} {out} ys lo h ly =
       room = lo;
       same = sym (take_at (take n out) ys n lt);
     }
+
+-- ---- an array that is changed in place: from i on it is as it came
+pub record Untouched (xs out : List ℤ) (i : ℕ) : Type 0 where
+  pub rest : (j : ℕ) → i ≤ j → at out j ≡ at xs j
+
+pub untouched_none : (xs : List ℤ) → Untouched xs xs 0
+untouched_none xs = record { rest = λ j h. refl }
+
+pub untouched_more : {xs out : List ℤ} {i : ℕ} (v : ℤ) → Untouched xs out i → Untouched xs (set out i v) (i + 1)
+untouched_more {xs} {out} {i} v u =
+    record { rest = λ j h. get_or-set_other out i j v (pos 0) (λ e. past j h e) ∙ u.rest j (omega arith) }
+  where
+    past : (j : ℕ) → i + 1 ≤ j → j ≡ i → ⊥
+    past j h e = omega arith
+
+pub untouched_here : {xs out : List ℤ} {i : ℕ} → Untouched xs out i → at out i ≡ at xs i
+untouched_here {i = i} u = u.rest i (omega arith)

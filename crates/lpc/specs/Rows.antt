@@ -14,12 +14,6 @@ blend1 old new = add (shr old (pos 1)) (shr new (pos 1))
 abbrev pub blend2 : ℤ → ℤ → ℤ
 blend2 old new = add (shr old (pos 2)) (sub new (shr new (pos 2)))
 
--- that of a subframe from 0 to 2, by its number
-abbrev pub blend : ℕ → ℤ → ℤ → ℤ
-blend zero = blend0
-blend (suc zero) = blend1
-blend (suc (suc n)) = blend2
-
 -- ---- Get_lsp_pol: the polynomial (Q24) whose roots are the LSPs q 0, q 1, ..
 -- one degree more, by the root r: f j from the old f j, f (j - 1) and f (j - 2)
 abbrev pub raised_from : ℤ → ℤ → ℤ → ℤ → ℤ

@@ -2,12 +2,12 @@
 #![tactic(auto)]
 
 ghost use Rattle.std.specs.Prelude.{◌≡◌, ◌+◌, ◌-◌, ◌<◌, ◌≤◌, take};
-ghost use Rattle.lists.specs.Lists.{pairwise};
-ghost use Rattle.lpc.specs.Rows.{blend, blend1, blend2, raised_from, raised, polynomial, every_second, coefficient, row, row_of, rows_of};
+ghost use Rattle.lpc.specs.Rows.{blend1, blend2, raised_from, raised, polynomial, every_second, coefficient, row, row_of, rows_of};
 
 use basicop::{
     Q15, add, extract_l, l_add, l_extract, l_msu, l_shl, l_shr_r, l_sub, mpy_32_16, shr, sub,
 };
+use std::array;
 
 // Four rows of eleven coefficients (Q12), one for each subframe.
 #[derive(Clone, Copy)]
@@ -30,27 +30,6 @@ fn halves(old: i16, new: i16) -> i16
     ensures { result ≡ blend1 old new }
 {
     add(shr(old, 1), shr(new, 1))
-}
-
-fn blended(old: i16, new: i16, subframe: usize) -> i16
-    ensures { result ≡ blend subframe old new }
-{
-    match subframe {
-        0 => quarters(new, old),
-        1 => halves(old, new),
-        _ => quarters(old, new),
-    }
-}
-
-// The LSPs of subframe 0, 1 or 2.
-fn blend(old: [i16; 10], new: [i16; 10], subframe: usize) -> [i16; 10]
-    ensures { result ≡ pairwise (blend subframe) old new }
-{
-    let mut r = [0i16; 10];
-    for k in 0..10 {
-        r[k] = blended(old[k], new[k], subframe);
-    }
-    r
 }
 
 // a coefficient of the next degree, from the one at its place and the two before it
@@ -126,9 +105,9 @@ pub fn convert(lsp: [i16; 10]) -> [i16; 11]
 pub fn interpolate(previous_lsp: [i16; 10], lsp: [i16; 10]) -> Rows
     ensures { result ≡ rows_of previous_lsp lsp }
 {
-    let a = convert(blend(previous_lsp, lsp, 0));
-    let b = convert(blend(previous_lsp, lsp, 1));
-    let c = convert(blend(previous_lsp, lsp, 2));
+    let a = convert(array::from_fn(|k| quarters(lsp[k], previous_lsp[k])));
+    let b = convert(array::from_fn(|k| halves(previous_lsp[k], lsp[k])));
+    let c = convert(array::from_fn(|k| quarters(previous_lsp[k], lsp[k])));
     let d = convert(lsp);
     Rows { a, b, c, d }
 }

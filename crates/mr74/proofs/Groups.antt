@@ -6,14 +6,14 @@ use mathlib.Core.List.{List, [], ◌∷◌, ◌++◌}
 use native.Mathlib.Numerals.{add-one}
 use native.Mathlib.Omega.{arith}
 use lib.IntN.{ℤ, pos, ◌+ℤ◌}
-use lib.ListN.{length, take, drop}
+use lib.ListN.{length, take, drop, length-drop}
 use lib.Seq.{length-take-le, get_or-take}
 use lib.Signed.{◌≤ℤ◌}
 use borrow.Author.Tests.{eqb-true, ltb-false, not-false}
 use Rattle.lists.specs.Lists.{at}
 use Rattle.lists.proofs.Entries.{stretch_at}
 use Rattle.spectral.specs.Lsp.{Frequencies}
-use Rattle.outcome.specs.declared.Outcome.TheVariants.{Lsf, PitchIndex, Gain, LsfGap}
+use Rattle.outcome.specs.declared.Refusal.TheVariants.{Lsf, PitchIndex, Gain, LsfGap}
 use Rattle.outcome.specs.Outcome.{place_of, is_accepted}
 use Rattle.outcome.specs.Checks.{first_met, first_outside, first_close}
 use Rattle.outcome.proofs.Checks.{none_met, Placed, placed_append, none_placed, found_placed, place_low}
@@ -25,22 +25,26 @@ use Rattle.state.proofs.Checks.{state_placed}
 use Rattle.mr74.specs.Sheet.{lsfs_of, gains_of}
 use Rattle.mr74.specs.Checks.{length_checks, lsf_checks, pitch_checks, gain_checks, sheet_checks, frame_checks, frame_outcome, GapsKept}
 
+-- the numbers of a sheet that a group tests are as many as it says
+pub stretch_length : (sheet : List ℤ) (from n : ℕ) → from + n ≤ length sheet → length (take n (drop from sheet)) ≡ n
+stretch_length sheet from n h = length-take-le n (drop from sheet) (simp length-drop (omega (arith, h)))
+
 -- ---- what a group has shown
 pub lengths_accept : (count numbers room : ℕ) → is_accepted (first_met (length_checks count numbers room)) ≡ true → (numbers ≡ count) × (room ≡ 160)
 lengths_accept count numbers room h =
-    let u = none_met (length_checks count numbers room) tt h in
+    let u = none_met (length_checks count numbers room) h in
     (eqb-true numbers count (not-false _ u.0), eqb-true room 160 (not-false _ u.1.0))
 
 module _ (sheet : List ℤ) where
-  pub lsfs_accept : 10 ≤ length sheet → is_accepted (first_met (lsf_checks sheet)) ≡ true → Frequencies (lsfs_of sheet)
-  lsfs_accept l h =
-      in_range_all 10 (pos 16384) (lsfs_of sheet) (length-take-le 10 sheet l) (ltb-false _ 10 (none_met (lsf_checks sheet) tt h).0)
+  pub lsfs_accept : length (lsfs_of sheet) ≡ 10 → is_accepted (first_met (lsf_checks sheet)) ≡ true → Frequencies (lsfs_of sheet)
+  lsfs_accept ten h =
+      in_range_all 10 (pos 16384) (lsfs_of sheet) ten (ltb-false _ 10 (none_met (lsf_checks sheet) h).0)
 
   module _ (h : is_accepted (first_met (lsf_checks sheet)) ≡ true) where
     -- 0 before the first
     gap_at : (k : ℕ) → k < 10 → (at (pos 0 ∷ lsfs_of sheet) k +ℤ pos 205) ≤ℤ at (lsfs_of sheet) k
     gap_at k l =
-        let n : 10 ≤ first_close (pos 205) (pos 0) (lsfs_of sheet) = ltb-false _ 10 (none_met (lsf_checks sheet) tt h).1.0 in
+        let n : 10 ≤ first_close (pos 205) (pos 0) (lsfs_of sheet) = ltb-false _ 10 (none_met (lsf_checks sheet) h).1.0 in
         in_gaps (pos 205) (pos 0) (lsfs_of sheet) k (omega (arith, n))
 
     pub gaps_accept : GapsKept sheet
@@ -58,10 +62,10 @@ module _ (sheet : List ℤ) where
   pitch_limits = pos 255 ∷ pos 31 ∷ pos 255 ∷ pos 31 ∷ []
 
   pub pitch_accept : is_accepted (first_met (pitch_checks sheet)) ≡ true → (k : ℕ) → k < 4 → (pos 0 ≤ℤ at sheet (10 + k)) × (at sheet (10 + k) ≤ℤ at pitch_limits k)
-  pitch_accept h = ranges_at 10 4 pitch_limits (ltb-false _ 4 (none_met (pitch_checks sheet) tt h).0)
+  pitch_accept h = ranges_at 10 4 pitch_limits (ltb-false _ 4 (none_met (pitch_checks sheet) h).0)
 
   pub gains_accept : is_accepted (first_met (gain_checks sheet)) ≡ true → (k : ℕ) → k < 8 → pos 0 ≤ℤ at sheet (14 + k)
-  gains_accept h k l = (ranges_at 14 8 (gains_of sheet) (ltb-false _ 8 (none_met (gain_checks sheet) tt h).0) k l).0
+  gains_accept h k l = (ranges_at 14 8 (gains_of sheet) (ltb-false _ 8 (none_met (gain_checks sheet) h).0) k l).0
 
   -- ---- places
   lsfs_placed : Placed (lsf_checks sheet)

@@ -1,6 +1,6 @@
 -- The inputs of an accepted sheet are usable. Assumes nothing.
 use Prim.Native.Nat.{ℕ, suc, ◌+◌, ◌*◌, ◌≤◌, ◌<◌}
-use mathlib.Core.Path.{refl, ◌∙◌}
+use mathlib.Core.Path.{◌≡◌, refl, ◌∙◌}
 use mathlib.Core.List.{List, [], ◌∷◌}
 use native.Mathlib.Omega.{arith}
 use lib.Dec.{leb→le, lit≤}
@@ -14,8 +14,8 @@ use Rattle.pitch.specs.Lag.{Lag, absolute, relative}
 use Rattle.pitch.proofs.Lags.{Lawful, absolute_lawful, relative_lawful}
 use Rattle.decoder.specs.Inputs.{UsableSubframe, Usable}
 use Rattle.state.specs.declared.State.{State}
-use Rattle.mr74.specs.Sheet.{lag_pair, lags_of, subframes_from, sheet_inputs}
-use Rattle.mr74.proofs.Passed.{Passed}
+use Rattle.mr74.specs.Sheet.{lsfs_of, lag_pair, lags_of, subframes_from, sheet_inputs}
+use Rattle.mr74.proofs.Passed.{Ready, Passed}
 
 -- ---- the lags
 absolute_range : (z : ℤ) → (pos 0 ≤ℤ z) × (z ≤ℤ pos 255) → Lawful (absolute z)
@@ -36,12 +36,14 @@ from sheet gains k (l ∷ ls) h e =
     let w = e.0 in
     (record { from = rw w.is (omega (arith_ℤ, w.from)); to = rw w.is (omega (arith_ℤ, w.to)); pitch = gains (2 * k) (omega arith) }, from sheet gains (suc k) ls (omega arith) e.1)
 
-pub usable : {sheet : List ℤ} {s : State} {room : ℕ} → Passed sheet s room → Usable (sheet_inputs sheet)
-usable {sheet} p =
-    let r = p.ready in
+pub sheet_usable : {sheet : List ℤ} → length (lsfs_of sheet) ≡ 10 → Ready sheet → Usable (sheet_inputs sheet)
+sheet_usable {sheet} ten r =
     record {
-      ten = length-take 10 sheet ∙ rw r.count;
+      ten = ten;
       lsfs = r.lsfs;
       four = refl;
-      subframes = from sheet p.gains 0 (lags_of sheet) (lit≤ tt) (every_append Lawful (lag_pair (at sheet 10) (at sheet 11)) (lag_pair (at sheet 12) (at sheet 13)) (pair_lawful _ _ r.index_a r.index_b) (pair_lawful _ _ r.index_c r.index_d));
+      subframes = from sheet r.gains 0 (lags_of sheet) (lit≤ tt) (every_append Lawful (lag_pair (at sheet 10) (at sheet 11)) (lag_pair (at sheet 12) (at sheet 13)) (pair_lawful _ _ r.indices.a r.indices.b) (pair_lawful _ _ r.indices.c r.indices.d));
     }
+
+pub usable : {sheet : List ℤ} {s : State} {room : ℕ} → Passed sheet s room → Usable (sheet_inputs sheet)
+usable {sheet} p = sheet_usable (length-take 10 sheet ∙ rw p.count) p.ready

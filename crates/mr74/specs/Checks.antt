@@ -3,9 +3,8 @@
 -- The theorem is `accepted_gaps` in proofs/Passed.antt.
 use Rattle.std.specs.Prelude.{◌≡◌, not, true, List, [], ◌∷◌, ◌++◌, ℕ, ◌+◌, ◌<◌, eqb, ℤ, pos, ◌+ℤ◌, length, replicate, ◌≤ℤ◌}
 use Rattle.lists.specs.Lists.{at}
-use Rattle.outcome.specs.declared.Outcome.{Outcome}
-use Rattle.outcome.specs.declared.Outcome.TheVariants.{SheetLength, Lsf, PitchIndex, Gain, OutputLength, LsfGap}
-use Rattle.outcome.specs.Outcome.{is_accepted}
+use Rattle.outcome.specs.declared.Refusal.TheVariants.{SheetLength, Lsf, PitchIndex, Gain, OutputLength, LsfGap}
+use Rattle.outcome.specs.Outcome.{Outcome, is_accepted}
 use Rattle.outcome.specs.Checks.{Check, check, place_check, first_met, first_outside, first_close}
 use Rattle.state.specs.declared.State.{State}
 use Rattle.state.specs.State.{state_checks}

@@ -8,8 +8,7 @@ use Rattle.decoder.specs.Core.{samples_of}
 use Rattle.decoder.specs.Divisions.{enhancements_divide}
 use Rattle.postfilter.specs.Divisions.{tilts_divide, controls_divide}
 use Rattle.state.specs.declared.State.{State}
-use Rattle.outcome.specs.declared.Outcome.{Outcome}
-use Rattle.outcome.specs.Outcome.{is_accepted}
+use Rattle.outcome.specs.Outcome.{Outcome, is_accepted}
 use Rattle.mr74.specs.Sheet.{sheet_inputs}
 use Rattle.mr74.specs.Checks.{frame_outcome}
 use Rattle.mr74.specs.Frame.{core_result_of, accepted_trace, frame_trace}

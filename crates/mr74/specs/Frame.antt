@@ -7,8 +7,7 @@ use Rattle.decoder.specs.Inputs.{SubframeInputs, FrameInputs}
 use Rattle.decoder.specs.Core.{SubframeResult, CoreResult, core_result, places_of, samples_of, quotients_of}
 use Rattle.postfilter.specs.Postfilter.{PostfilterResult, postfilter_result}
 use Rattle.state.specs.declared.State.{State}
-use Rattle.outcome.specs.declared.Outcome.{Outcome}
-use Rattle.outcome.specs.Outcome.{is_accepted}
+use Rattle.outcome.specs.Outcome.{Outcome, is_accepted}
 use Rattle.mr74.specs.declared.FrameAnswer.{FrameAnswer}
 use Rattle.mr74.specs.Sheet.{sheet_inputs}
 use Rattle.mr74.specs.Checks.{frame_outcome}

@@ -1,26 +1,14 @@
 -- What inner functions of the frame call ask and give. The contract of the call itself does not use it.
-use Rattle.std.specs.Prelude.{◌≡◌, List, [], ◌∷◌, ℤ, pos, length, replicate, ◌≤ℤ◌}
-use Rattle.lists.specs.Lists.{at}
+use Rattle.std.specs.Prelude.{List, [], ◌∷◌, replicate}
 use Rattle.pitch.specs.Lag.{Lag, lag_of}
-use Rattle.spectral.specs.Lsp.{Frequencies}
 use Rattle.decoder.specs.Inputs.{FrameInputs}
 use Rattle.decoder.specs.Core.{places_of}
 use Rattle.state.specs.declared.State.{State}
-use Rattle.outcome.specs.declared.Outcome.{Outcome}
+use Rattle.outcome.specs.Outcome.{Outcome}
 use Rattle.mr74.specs.declared.sheet.LagPair.{LagPair}
 use Rattle.mr74.specs.declared.FrameOutput.{FrameOutput}
 use Rattle.mr74.specs.declared.FrameAnswer.{FrameAnswer}
-use Rattle.mr74.specs.Sheet.{lsfs_of}
 use Rattle.mr74.specs.Frame.{core_result_of, post_result_of, next_state_of, zero_rows}
-
--- a sheet that has passed the checks 1, 2 and 3
-pub record Ready (sheet : List ℤ) : Type 0 where
-  pub count : length sheet ≡ 182
-  pub lsfs : Frequencies (lsfs_of sheet)
-  pub index_a : (pos 0 ≤ℤ at sheet 10) × (at sheet 10 ≤ℤ pos 255)
-  pub index_b : (pos 0 ≤ℤ at sheet 11) × (at sheet 11 ≤ℤ pos 31)
-  pub index_c : (pos 0 ≤ℤ at sheet 12) × (at sheet 12 ≤ℤ pos 255)
-  pub index_d : (pos 0 ≤ℤ at sheet 13) × (at sheet 13 ≤ℤ pos 31)
 
 -- the code's two lags
 abbrev pub two_lags : LagPair → List Lag

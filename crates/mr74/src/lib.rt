@@ -1,22 +1,20 @@
 // The frame call of MR74.
 #![tactic(auto)]
 
-ghost use Rattle.std.specs.Prelude.{◌≡◌, map};
+ghost use Rattle.std.specs.Prelude.{◌≡◌, Err, map};
 ghost use Rattle.decoder.specs.Inputs.{inputs_of, Usable};
 ghost use Rattle.decoder.specs.Subframe.{flag_of};
 ghost use Rattle.mr74.specs.Frame.{call_result, frame_call};
-ghost use Rattle.mr74.specs.Sheet.{sheet_inputs};
-ghost use Rattle.mr74.specs.Inner.{Ready, frame_output_of, refused_answer};
+ghost use Rattle.mr74.specs.Inner.{frame_output_of, refused_answer};
 
 mod checks;
 mod sheet;
 
 use checks::check_frame;
-use copy::copy;
-use decoder::Inputs;
+use decoder::{CoreOutput, Inputs, SubframesOutput};
 use lpc::Rows;
-use outcome::Outcome;
-use sheet::inputs;
+use outcome::{Outcome, Refusal};
+use postfilter::Postfiltered;
 use state::State;
 
 // The numbers of a sheet, and of the lent output.
@@ -38,12 +36,7 @@ pub struct FrameAnswer {
 pub fn flags(places: [usize; 4]) -> [bool; 4]
     ensures { result ≡ map flag_of places }
 {
-    [
-        places[0] != 40,
-        places[1] != 40,
-        places[2] != 40,
-        places[3] != 40,
-    ]
+    places.map(|place| place != 40)
 }
 
 // ---- the call
@@ -61,42 +54,30 @@ fn decode(state: State, inputs: Inputs) -> FrameOutput
     requires { Usable (inputs_of inputs) }
     ensures { result ≡ frame_output_of (inputs_of inputs) state }
 {
-    let core = state.core;
-    let frame = decoder::decode(core, inputs);
-    let rows = frame.rows;
-    let run = frame.subframes;
-    let synthesis = run.samples;
-    let places = run.places;
-    let left = run.next;
-    let post = state.post;
-    let filtered = postfilter::process(post, synthesis, rows);
-    let samples = filtered.samples;
-    let memory = filtered.memory;
+    let CoreOutput { rows, subframes } = decoder::decode(state.core, inputs);
+    let SubframesOutput {
+        places,
+        samples: synthesis,
+        next: core,
+    } = subframes;
+    let Postfiltered {
+        samples,
+        memory: post,
+    } = postfilter::process(state.post, synthesis, rows);
     FrameOutput {
         rows,
         places,
         samples,
-        next: State {
-            core: left,
-            post: memory,
-        },
+        next: State { core, post },
     }
 }
 
-// The frame of a sheet that its checks have accepted.
-fn decode_sheet(state: State, sheet: &[i16]) -> FrameOutput
-    requires { Ready sheet.now × Usable (sheet_inputs sheet.now) }
-    ensures { result ≡ frame_output_of (sheet_inputs sheet.now) state }
-{
-    decode(state, inputs(sheet))
-}
-
 // Rows all zero, places 40, the state as it came.
-fn refused(outcome: Outcome, state: State) -> FrameAnswer
-    ensures { result ≡ refused_answer outcome state }
+fn refused(refusal: Refusal, state: State) -> FrameAnswer
+    ensures { result ≡ refused_answer (Err refusal) state }
 {
     FrameAnswer {
-        outcome,
+        outcome: Err(refusal),
         rows: Rows {
             a: [0; 11],
             b: [0; 11],
@@ -113,20 +94,22 @@ fn refused(outcome: Outcome, state: State) -> FrameAnswer
 pub fn frame(sheet: &[i16], state: State, out: &mut [i16]) -> FrameAnswer
     ensures { call_result result out.new ≡ frame_call sheet.now state out.old }
 {
-    let outcome = check_frame(sheet, state, out.len());
-    if outcome.accepted() {
-        let decoded = decode_sheet(state, sheet);
-        let samples = decoded.samples;
-        copy(out, &samples);
-        let rows = decoded.rows;
-        let places = decoded.places;
-        let next = decoded.next;
-        return FrameAnswer {
-            outcome,
-            rows,
-            places,
-            next,
-        };
+    match check_frame(sheet, state, out.len()) {
+        Ok(checked) => {
+            let FrameOutput {
+                rows,
+                places,
+                samples,
+                next,
+            } = decode(state, checked.inputs());
+            out.copy_from_slice(&samples);
+            FrameAnswer {
+                outcome: Ok(()),
+                rows,
+                places,
+                next,
+            }
+        }
+        Err(refusal) => refused(refusal, state),
     }
-    refused(outcome, state)
 }

@@ -1,23 +1,22 @@
 // The frame sheet: ten LSFs, and of four subframes lag, gains and innovation.
-ghost use Rattle.std.specs.Prelude.{◌≡◌, ◌<◌, pos, length, ◌≤ℤ◌};
-ghost use Rattle.decoder.specs.Inputs.{subframe_of, inputs_of};
+ghost use Rattle.std.specs.Prelude.{◌≡◌, Ok, ◌<◌, pos, ◌≤ℤ◌};
+ghost use Rattle.decoder.specs.Inputs.{subframe_of, inputs_of, Usable};
+ghost use Rattle.outcome.specs.Checks.{first_met};
 ghost use Rattle.pitch.specs.Lag.{lag_of};
-ghost use Rattle.mr74.specs.Sheet.{lsfs_of, lag_pair, innovation_of, subframe_at, sheet_inputs};
-ghost use Rattle.mr74.specs.Inner.{Ready, two_lags};
+ghost use Rattle.mr74.specs.Checks.{sheet_checks};
+ghost use Rattle.mr74.specs.Sheet.{lag_pair, subframe_at, sheet_inputs};
+ghost use Rattle.mr74.specs.Inner.{two_lags};
 
+use super::SHEET;
 use basicop::{Q1, Q13, Q14};
-use copy::copy;
 use decoder::{Inputs, Parameters};
 use pitch::PitchLag;
 
-// The ten LSFs.
-fn lsfs(sheet: &[i16]) -> [i16; 10]
-    requires { length sheet.now ≡ 182 }
-    ensures { result ≡ lsfs_of sheet.now }
-{
-    let mut r = [0i16; 10];
-    copy(&mut r, &sheet[0..10]);
-    r
+// The numbers of a sheet that its checks have accepted.
+#[derive(Clone, Copy)]
+pub struct CheckedSheet<'a> {
+    pub numbers: &'a [i16; SHEET],
+    ghost accepted: { first_met (sheet_checks numbers.now) ≡ Ok tt },
 }
 
 // A pitch index as a byte.
@@ -48,46 +47,34 @@ fn lags(first: i16, second: i16) -> LagPair
     }
 }
 
-// The forty numbers of a subframe's innovation.
-fn innovation(sheet: &[i16], subframe: usize) -> Q13
-    requires { (length sheet.now ≡ 182) × (subframe < 4) }
-    ensures { result.0 ≡ innovation_of sheet.now subframe }
-{
-    let from = 22 + 40 * subframe;
-    let mut r = [0i16; 40];
-    copy(&mut r, &sheet[from..from + 40]);
-    Q13(r)
-}
-
 // What the sheet gives for a subframe, with its lag.
-fn parameters(sheet: &[i16], subframe: usize, lag: PitchLag) -> Parameters
-    requires { (length sheet.now ≡ 182) × (subframe < 4) }
+fn parameters(sheet: &[i16; SHEET], subframe: usize, lag: PitchLag) -> Parameters
+    requires { subframe < 4 }
     ensures { subframe_of result ≡ subframe_at sheet.now subframe (lag_of lag) }
 {
-    let innovation = innovation(sheet, subframe);
     Parameters {
         lag,
         pitch: Q14(sheet[14 + 2 * subframe]),
         code: Q1(sheet[15 + 2 * subframe]),
-        innovation,
+        innovation: Q13(copy::stretch(sheet, 22 + 40 * subframe)),
     }
 }
 
-// What the sheet gives for the frame.
-pub fn inputs(sheet: &[i16]) -> Inputs
-    requires { Ready sheet.now }
-    ensures { inputs_of result ≡ sheet_inputs sheet.now }
-{
-    let lsfs = lsfs(sheet);
-    let early = lags(sheet[10], sheet[11]);
-    let late = lags(sheet[12], sheet[13]);
-    let first = early.first;
-    let second = early.second;
-    let third = late.first;
-    let fourth = late.second;
-    let a = parameters(sheet, 0, first);
-    let b = parameters(sheet, 1, second);
-    let c = parameters(sheet, 2, third);
-    let d = parameters(sheet, 3, fourth);
-    Inputs { lsfs, a, b, c, d }
+impl CheckedSheet<'_> {
+    // What the sheet gives for the frame.
+    pub fn inputs(self) -> Inputs
+        ensures value { inputs_of result ≡ sheet_inputs self.entry.numbers.now }
+        ensures usable { Usable (inputs_of result) }
+    {
+        let sheet = self.numbers;
+        let early = lags(sheet[10], sheet[11]);
+        let late = lags(sheet[12], sheet[13]);
+        Inputs {
+            lsfs: copy::stretch(sheet, 0),
+            a: parameters(sheet, 0, early.first),
+            b: parameters(sheet, 1, early.second),
+            c: parameters(sheet, 2, late.first),
+            d: parameters(sheet, 3, late.second),
+        }
+    }
 }

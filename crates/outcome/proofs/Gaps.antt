@@ -9,19 +9,17 @@ use lib.IntN.{ℤ, pos, ◌+ℤ◌, ◌-ℤ◌}
 use lib.ListN.{length, drop, drop_of_length-le}
 use lib.Seq.{drop-cons}
 use lib.Signed.{◌≤ℤ◌, lt_z}
-use borrow.Author.Tests.{not-true}
+use borrow.Author.Tests.{not-true, lt-ltb, le-ltb}
+use Rattle.std.specs.Prelude.{Some, None}
 use Rattle.lists.specs.Lists.{at}
 use Rattle.basicop.proofs.Ints.{arith_ℤ, add_is, sub_ℤ_is}
 use Rattle.basicop.proofs.Tests.{less_no}
-use Rattle.outcome.specs.Checks.{apart, first_close}
+use Rattle.outcome.specs.Checks.{apart, found, first_close}
 use Rattle.outcome.proofs.Ranges.{one_more}
 
 -- ---- the loop, with i numbers passed, `before` the last of them: what is found from here is what is found in all
 pub record Rising (gap : ℤ) (xs : List ℤ) (before : ℤ) (i : ℕ) : Type 0 where
   pub rest : i + first_close gap before (drop i xs) ≡ first_close gap (pos 0) xs
-
-pub rising_none : {gap : ℤ} {xs : List ℤ} → Rising gap xs (pos 0) 0
-rising_none = record { rest = omega arith }
 
 module _ {gap : ℤ} {xs : List ℤ} {before : ℤ} {i : ℕ} (s : Rising gap xs before i) where
   pub rising_more : lt_z (at xs i -ℤ before) gap ≡ false → i < length xs → Rising gap xs (at xs i) (i + 1)
@@ -30,17 +28,18 @@ module _ {gap : ℤ} {xs : List ℤ} {before : ℤ} {i : ℕ} (s : Rising gap xs
       let r : i + suc (first_close gap (at xs i) (drop (suc i) xs)) ≡ first_close gap (pos 0) xs = rw (drop-cons xs i (pos 0) h, e) at s.rest in
       record { rest = rw (add-one i) (omega (arith, r)) }
 
-  pub rising_found : lt_z (at xs i -ℤ before) gap ≡ true → i < length xs → i ≡ first_close gap (pos 0) xs
+  pub rising_found : lt_z (at xs i -ℤ before) gap ≡ true → i < length xs → Some i ≡ found (first_close gap (pos 0) xs) (length xs)
   unfolding first_close
   rising_found e h =
       let r : i + 0 ≡ first_close gap (pos 0) xs = rw (drop-cons xs i (pos 0) h, e) at s.rest in
-      omega (arith, r)
+      let k : first_close gap (pos 0) xs ≡ i = omega (arith, r) in
+      rw (k, lt-ltb i (length xs) h)
 
-  pub rising_done : i ≡ length xs → i ≡ first_close gap (pos 0) xs
+  pub rising_done : i ≡ length xs → None ≡ found (first_close gap (pos 0) xs) (length xs)
   unfolding first_close
   rising_done e =
       let r : i + 0 ≡ first_close gap (pos 0) xs = rw (drop_of_length-le xs {i = i} (omega (arith, e))) at s.rest in
-      omega (arith, r)
+      rw (le-ltb (first_close gap (pos 0) xs) (length xs) (omega (arith, r, e)))
 
 -- ---- up to what is found, every number lies at least `gap` above the one before it
 apart_by : (gap before x : ℤ) → apart gap before x ≡ true → (before +ℤ gap) ≤ℤ x

@@ -1,59 +1,52 @@
 -- The search for the first number outside 0..=its limit. Assumes nothing.
-use Prim.Native.Nat.{ℕ, zero, suc, ◌+◌, ◌≤◌, ◌<◌}
-use mathlib.Core.Path.{◌≡◌, refl}
-use mathlib.Core.Bool.{Bool, true, false, cond, ◌||◌}
+use Prim.Native.Nat.{ℕ, zero, suc, ◌+◌, ◌≤◌, ◌<◌, min}
+use mathlib.Core.Path.{◌≡◌, refl, subst}
+use mathlib.Core.Bool.{Bool, true, false, cond, not, ◌||◌}
 use mathlib.Core.List.{List, [], ◌∷◌}
-use native.Mathlib.Numerals.{add-one}
 use native.Mathlib.Omega.{arith}
 use lib.IntN.{ℤ, pos}
-use lib.ListN.{length, drop, drop_of_length-le, replicate}
-use lib.Seq.{drop-cons}
+use lib.ListN.{length, replicate}
 use lib.Signed.{◌≤ℤ◌, lt_z}
-use borrow.Author.Tests.{not-true}
+use borrow.Author.Tests.{not-true, ltb-false}
+use lib.Dec.{T, ltb}
+use Rattle.std.specs.Prelude.{Option, Some, None, is_some, position}
+use Rattle.std.specs.List.{zip, position_or_len}
+use Rattle.std.proofs.lemmas.Slice.Zip.{length-zip}
 use Rattle.lists.specs.Lists.{at, Every}
 use Rattle.basicop.proofs.Tests.{less_no, or_left, or_right}
-use Rattle.outcome.specs.Checks.{within, first_outside}
+use Rattle.outcome.specs.Checks.{within, found, first_outside}
 
 -- ---- a number against its limit
-pub below : (limit x : ℤ) → lt_z x (pos 0) ≡ true → within limit x ≡ false
-below limit x e = rw e
-
-pub above : (limit x : ℤ) → lt_z x (pos 0) ≡ false → lt_z limit x ≡ true → within limit x ≡ false
-above limit x e f = rw (e, f)
-
-pub inside : (limit x : ℤ) → lt_z x (pos 0) ≡ false → lt_z limit x ≡ false → within limit x ≡ true
-inside limit x e f = rw (e, f)
-
 pub in_range : (limit x : ℤ) → within limit x ≡ true → (pos 0 ≤ℤ x) × (x ≤ℤ limit)
 in_range limit x e =
     let n = not-true (lt_z x (pos 0) || lt_z limit x) e in
     (less_no (or_left (lt_z x (pos 0)) (lt_z limit x) n), less_no (or_right (lt_z x (pos 0)) (lt_z limit x) n))
 
--- ---- the loop, with i numbers passed: what is found from here is what is found in all
-pub record Searching (xs limits : List ℤ) (i : ℕ) : Type 0 where
-  pub rest : i + first_outside (drop i xs) (drop i limits) ≡ first_outside xs limits
+-- ---- the search over pairs of a number and its limit
+abbrev pub outside : ℤ × ℤ → Bool
+outside p = not (within p.1 p.0)
 
-pub search_none : {xs limits : List ℤ} → Searching xs limits 0
-search_none = record { rest = omega arith }
+position_is : (xs limits : List ℤ) → length xs ≡ length limits → position_or_len outside (zip xs limits) ≡ first_outside xs limits
+unfolding first_outside
+position_is [] limits e = refl
+position_is (x ∷ xs) [] e = absurd (omega (arith, e))
+position_is (x ∷ xs) (l ∷ ls) e = go (within l x) (position_is xs ls (omega (arith, e)))
+  where
+    go : (b : Bool) {m n : ℕ} → m ≡ n → cond (not (not b)) (1 + m) 0 ≡ cond b (suc n) 0
+    go true h = omega (arith, h)
+    go false h = refl
 
-module _ {xs limits : List ℤ} {i : ℕ} (s : Searching xs limits i) where
-  pub search_more : within (at limits i) (at xs i) ≡ true → i < length xs → i < length limits → Searching xs limits (i + 1)
-  unfolding first_outside
-  search_more e h k =
-      let r : i + suc (first_outside (drop (suc i) xs) (drop (suc i) limits)) ≡ first_outside xs limits = rw (drop-cons xs i (pos 0) h, drop-cons limits i (pos 0) k, e) at s.rest in
-      record { rest = rw (add-one i) (omega (arith, r)) }
+pub position_found : (xs limits : List ℤ) → length xs ≡ length limits → position outside (zip xs limits) ≡ found (first_outside xs limits) (length xs)
+position_found xs limits e =
+    let l : min (length xs) (length limits) ≡ length xs = omega (arith, e) in
+    rw (position_is xs limits e, length-zip xs limits, l)
 
-  pub search_found : within (at limits i) (at xs i) ≡ false → i < length xs → i < length limits → i ≡ first_outside xs limits
-  unfolding first_outside
-  search_found e h k =
-      let r : i + 0 ≡ first_outside xs limits = rw (drop-cons xs i (pos 0) h, drop-cons limits i (pos 0) k, e) at s.rest in
-      omega (arith, r)
-
-  pub search_done : i ≡ length xs → i ≡ first_outside xs limits
-  unfolding first_outside
-  search_done e =
-      let r : i + 0 ≡ first_outside xs limits = rw (drop_of_length-le xs {i = i} (omega (arith, e))) at s.rest in
-      omega (arith, r)
+pub none_found : {o : Option ℕ} (place count : ℕ) → o ≡ found place count → is_some o ≡ false → count ≤ place
+none_found {o} place count e h = ltb-false place count (go (ltb place count) (rw e at h))
+  where
+    go : (b : Bool) → is_some (cond b (Some place) None) ≡ false → b ≡ false
+    go true k = absurd (subst T k tt)
+    go false k = refl
 
 -- ---- where none is found, every number lies in its range
 pub one_more : (b : Bool) (n k : ℕ) → suc k ≤ cond b (suc n) 0 → (b ≡ true) × (k ≤ n)

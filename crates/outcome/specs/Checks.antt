@@ -1,25 +1,30 @@
 -- Checks that are tested in order, and two searches: for the first number outside its range, and for the first that is too close to the one before.
-use Rattle.std.specs.Prelude.{Bool, cond, not, ◌||◌, List, [], ◌∷◌, ℕ, suc, ltb, ℤ, pos, ◌-ℤ◌}
+use Rattle.std.specs.Prelude.{Bool, cond, not, ◌||◌, List, [], ◌∷◌, Option, Some, None, Ok, Err, ℕ, suc, ltb, ℤ, pos, ◌-ℤ◌}
 use Rattle.std.specs.Int.Signed.{lt_z}
-use Rattle.outcome.specs.declared.Outcome.{Outcome}
-use Rattle.outcome.specs.declared.Outcome.TheVariants.{Accepted}
+use Rattle.outcome.specs.declared.Refusal.{Refusal}
+use Rattle.outcome.specs.Outcome.{Outcome}
 
 -- a line of a table of refusals: whether its condition is met, and the refusal
 pub record Check : Type 0 where
   pub met : Bool
-  pub refusal : Outcome
+  pub refusal : Refusal
 
-abbrev pub check : Bool → Outcome → Check
+abbrev pub check : Bool → Refusal → Check
 check met refusal = record { met = met; refusal = refusal }
 
 -- the check by a search that gives the place of the first fault, and `count` where there is none
-abbrev pub place_check : (ℕ → Outcome) → ℕ → ℕ → Check
+abbrev pub place_check : (ℕ → Refusal) → ℕ → ℕ → Check
 place_check refusal place count = check (ltb place count) (refusal place)
 
 -- the first check that is met turns the call back. Groups of checks are joined by `++`
 unfoldable pub first_met : List Check → Outcome
-first_met [] = Accepted
-first_met (c ∷ checks) = cond c.met c.refusal (first_met checks)
+first_met [] = Ok tt
+first_met (c ∷ checks) = cond c.met (Err c.refusal) (first_met checks)
+
+-- ---- searches
+-- what a search found: the place of the first fault, where it is below the count
+abbrev pub found : ℕ → ℕ → Option ℕ
+found place count = cond (ltb place count) (Some place) None
 
 -- ---- numbers with a limit each
 -- a number lies in 0..=limit

@@ -1,42 +1,53 @@
 -- Refusals: document 01, "Turned back by the sheet" and "Turned back by the state", and document 02, 3/13 (number 6).
-use Rattle.std.specs.Prelude.{Bool, ℕ, eqb}
-use Rattle.outcome.specs.declared.Outcome.{Outcome}
-use Rattle.outcome.specs.declared.Outcome.TheVariants.{Accepted, SheetLength, Lsf, PitchIndex, Gain, OutputLength, LsfGap}
-use Rattle.outcome.specs.declared.Outcome.TheVariants.{RecordShort, Tag, Version, Layout, BodyShort, Sharpening, SmoothedGain}
+use Rattle.std.specs.Prelude.{Bool, ℕ, eqb, Result, Ok, Err}
+use Rattle.outcome.specs.declared.Refusal.{Refusal}
+use Rattle.outcome.specs.declared.Refusal.TheVariants.{SheetLength, Lsf, PitchIndex, Gain, OutputLength, LsfGap}
+use Rattle.outcome.specs.declared.Refusal.TheVariants.{RecordShort, Tag, Version, Layout, BodyShort, Sharpening, SmoothedGain}
 
--- the papers' number, and 0 for what is accepted
+-- what a call comes to: it is accepted, or a check turns it back
+abbrev pub Outcome : Type 0
+Outcome = Result Unit Refusal
+
+-- the papers' number
+abbrev pub refusal_number : Refusal → ℕ
+refusal_number SheetLength = 1
+refusal_number (Lsf place) = 2
+refusal_number (PitchIndex place) = 3
+refusal_number (Gain place) = 4
+refusal_number OutputLength = 5
+refusal_number (LsfGap place) = 6
+refusal_number RecordShort = 11
+refusal_number Tag = 12
+refusal_number Version = 13
+refusal_number Layout = 14
+refusal_number BodyShort = 15
+refusal_number Sharpening = 16
+refusal_number SmoothedGain = 17
+
+-- the papers' place
+abbrev pub refusal_place : Refusal → ℕ
+refusal_place SheetLength = 0
+refusal_place (Lsf place) = place
+refusal_place (PitchIndex place) = place
+refusal_place (Gain place) = place
+refusal_place OutputLength = 0
+refusal_place (LsfGap place) = place
+refusal_place RecordShort = 0
+refusal_place Tag = 0
+refusal_place Version = 0
+refusal_place Layout = 0
+refusal_place BodyShort = 0
+refusal_place Sharpening = 0
+refusal_place SmoothedGain = 0
+
+-- both are 0 for what is accepted
 abbrev pub number_of : Outcome → ℕ
-number_of Accepted = 0
-number_of SheetLength = 1
-number_of (Lsf place) = 2
-number_of (PitchIndex place) = 3
-number_of (Gain place) = 4
-number_of OutputLength = 5
-number_of (LsfGap place) = 6
-number_of RecordShort = 11
-number_of Tag = 12
-number_of Version = 13
-number_of Layout = 14
-number_of BodyShort = 15
-number_of Sharpening = 16
-number_of SmoothedGain = 17
+number_of (Ok t) = 0
+number_of (Err refusal) = refusal_number refusal
 
--- the papers' place of a refusal
 abbrev pub place_of : Outcome → ℕ
-place_of Accepted = 0
-place_of SheetLength = 0
-place_of (Lsf place) = place
-place_of (PitchIndex place) = place
-place_of (Gain place) = place
-place_of OutputLength = 0
-place_of (LsfGap place) = place
-place_of RecordShort = 0
-place_of Tag = 0
-place_of Version = 0
-place_of Layout = 0
-place_of BodyShort = 0
-place_of Sharpening = 0
-place_of SmoothedGain = 0
+place_of (Ok t) = 0
+place_of (Err refusal) = refusal_place refusal
 
 -- document 01's "accepted": no check turned the call back
 abbrev pub is_accepted : Outcome → Bool

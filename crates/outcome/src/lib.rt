@@ -1,14 +1,13 @@
 // Refusals: what turns a call back, with its number and its place.
 #![tactic(auto)]
 
-ghost use Rattle.std.specs.Prelude.{◌≡◌, pos, length};
-ghost use Rattle.outcome.specs.Outcome.{number_of, place_of, is_accepted};
-ghost use Rattle.outcome.specs.Checks.{first_outside, first_close};
+ghost use Rattle.std.specs.Prelude.{◌≡◌, not, pos, length};
+ghost use Rattle.outcome.specs.Outcome.{refusal_number, refusal_place, number_of, place_of};
+ghost use Rattle.outcome.specs.Checks.{within, found, first_outside, first_close};
 
 // Document 01's refusals and document 02's, by their numbers. A place goes with 2, 3, 4 and 6.
-#[derive(Clone, Copy)]
-pub enum Outcome {
-    Accepted,
+#[derive(Clone, Copy, Debug, PartialEq, Eq)]
+pub enum Refusal {
     // 1
     SheetLength,
     // 2
@@ -37,93 +36,87 @@ pub enum Outcome {
     SmoothedGain,
 }
 
-impl Outcome {
-    // 0 where the call is accepted.
+// What a call comes to: it is accepted, or a check turns it back.
+pub type Outcome = Result<(), Refusal>;
+
+impl Refusal {
     pub fn number(self) -> u64
-        ensures { result ≡ number_of self }
+        ensures { result ≡ refusal_number self }
     {
         match self {
-            Outcome::Accepted => 0,
-            Outcome::SheetLength => 1,
-            Outcome::Lsf(_) => 2,
-            Outcome::PitchIndex(_) => 3,
-            Outcome::Gain(_) => 4,
-            Outcome::OutputLength => 5,
-            Outcome::LsfGap(_) => 6,
-            Outcome::RecordShort => 11,
-            Outcome::Tag => 12,
-            Outcome::Version => 13,
-            Outcome::Layout => 14,
-            Outcome::BodyShort => 15,
-            Outcome::Sharpening => 16,
-            Outcome::SmoothedGain => 17,
+            Refusal::SheetLength => 1,
+            Refusal::Lsf(_) => 2,
+            Refusal::PitchIndex(_) => 3,
+            Refusal::Gain(_) => 4,
+            Refusal::OutputLength => 5,
+            Refusal::LsfGap(_) => 6,
+            Refusal::RecordShort => 11,
+            Refusal::Tag => 12,
+            Refusal::Version => 13,
+            Refusal::Layout => 14,
+            Refusal::BodyShort => 15,
+            Refusal::Sharpening => 16,
+            Refusal::SmoothedGain => 17,
         }
     }
 
     // Where the refusal lies; 0 with those that have no place.
     pub fn place(self) -> usize
-        ensures { result ≡ place_of self }
+        ensures { result ≡ refusal_place self }
     {
         match self {
-            Outcome::Accepted => 0,
-            Outcome::SheetLength => 0,
-            Outcome::Lsf(place) => place,
-            Outcome::PitchIndex(place) => place,
-            Outcome::Gain(place) => place,
-            Outcome::OutputLength => 0,
-            Outcome::LsfGap(place) => place,
-            Outcome::RecordShort => 0,
-            Outcome::Tag => 0,
-            Outcome::Version => 0,
-            Outcome::Layout => 0,
-            Outcome::BodyShort => 0,
-            Outcome::Sharpening => 0,
-            Outcome::SmoothedGain => 0,
+            Refusal::Lsf(place)
+            | Refusal::PitchIndex(place)
+            | Refusal::Gain(place)
+            | Refusal::LsfGap(place) => place,
+            _ => 0,
         }
-    }
-
-    // No check turned the call back.
-    pub fn accepted(self) -> bool
-        ensures { result ≡ is_accepted self }
-    {
-        self.number() == 0
     }
 }
 
-// The place of the first number outside 0..=its limit, the count where none is.
-pub fn first_outside(numbers: &[i16], limits: &[i16]) -> usize
-    requires { length numbers.now ≡ length limits.now }
-    ensures { result ≡ first_outside numbers.now limits.now }
+// The refusal's number, 0 where the call is accepted.
+pub fn number(outcome: Outcome) -> u64
+    ensures { result ≡ number_of outcome }
 {
-    let mut i = 0;
-    while i < numbers.len() {
-        let number = numbers[i];
-        let negative = number < 0;
-        if negative {
-            return i;
-        }
-        let limit = limits[i];
-        if limit < number {
-            return i;
-        }
-        i += 1;
-    }
-    i
+    outcome.err().map_or(0, Refusal::number)
 }
 
-// The place of the first number less than `gap` above the one before it, the count where none is; before the first stands 0.
-pub fn first_close(gap: i32, numbers: &[i16]) -> usize
-    ensures { result ≡ first_close gap (pos 0) numbers.now }
+// The refusal's place, 0 where the call is accepted.
+pub fn place(outcome: Outcome) -> usize
+    ensures { result ≡ place_of outcome }
+{
+    outcome.err().map_or(0, Refusal::place)
+}
+
+// Whether a number lies outside 0..=limit.
+fn is_outside(limit: i16, number: i16) -> bool
+    ensures { result ≡ not (within limit number) }
+{
+    !(0..=limit).contains(&number)
+}
+
+// The place of the first number outside 0..=its limit.
+pub fn first_outside(numbers: &[i16], limits: &[i16]) -> Option<usize>
+    requires { length numbers.now ≡ length limits.now }
+    ensures { result ≡ found (first_outside numbers.now limits.now) (length numbers.now) }
+{
+    numbers
+        .iter()
+        .zip(limits)
+        .position(|(number, limit)| is_outside(*limit, *number))
+}
+
+// The place of the first number less than `gap` above the one before it; before the first stands 0.
+pub fn first_close(gap: i32, numbers: &[i16]) -> Option<usize>
+    ensures { result ≡ found (first_close gap (pos 0) numbers.now) (length numbers.now) }
 {
     let mut before = 0;
-    let mut i = 0;
-    while i < numbers.len() {
-        let number = numbers[i] as i32;
+    for (place, &number) in numbers.iter().enumerate() {
+        let number = i32::from(number);
         if number - before < gap {
-            return i;
+            return Some(place);
         }
         before = number;
-        i += 1;
     }
-    i
+    None
 }

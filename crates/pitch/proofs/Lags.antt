@@ -1,5 +1,5 @@
 -- What the definitions of Lag.antt come to: by one computed test over all 256 indices where an index is in it. Assumes nothing.
-use mathlib.Core.Path.{◌≡◌, refl, ap₂, ◌∙◌}
+use mathlib.Core.Path.{◌≡◌, refl, ap, ap₂, ◌∙◌}
 use mathlib.Core.Bool.{Bool, true, false, cond}
 use Prim.Native.Nat.{ℕ, min, max, ◌+◌, ◌-◌, ◌/◌, ◌%◌, ◌<◌, ◌≤◌}
 use native.Mathlib.Omega.{arith}
@@ -84,7 +84,7 @@ absolute_from n l h =
 low : ℕ → Bool
 low t = eq_z (lag_min (pos t)) (pos (max 20 (t - 5)))
 
-pub lag_min_low : (t : ℕ) → t < 140 → lag_min (pos t) ≡ pos (max 20 (t - 5))
+lag_min_low : (t : ℕ) → t < 140 → lag_min (pos t) ≡ pos (max 20 (t - 5))
 unfolding low lag_min sub add clamp
 lag_min_low t h = eq_z→eq _ _ (below_each low 140 tt t h)
 
@@ -96,16 +96,16 @@ lowered_holds m h =
     let k = min (m + 9) 32767 in
     rw (add_pos m 9, sub_pos k 143 (omega arith), lt-ltb 0 (min (k - 143) 32767) (omega arith)) (sub_pos 143 9 (lit≤ tt))
 
-pub lag_min_high : (t : ℕ) → 140 ≤ t → lag_min (pos t) ≡ pos 134
+lag_min_high : (t : ℕ) → 140 ≤ t → lag_min (pos t) ≡ pos 134
 unfolding lag_min
 lag_min_high t h = rw (sub_pos t 5 (omega arith), raised_keeps (min (t - 5) 32767) (omega arith)) (lowered_holds (min (t - 5) 32767) (omega arith))
 
-pub lag_min_range : (t : ℕ) → (m : ℕ) × (lag_min (pos t) ≡ pos m) × (20 ≤ m) × (m ≤ 134)
-lag_min_range t = go (ltb t 140) refl
+pub lag_min_is : (t : ℕ) → lag_min (pos t) ≡ pos (max 20 (min (t - 5) 134))
+lag_min_is t = go (ltb t 140) refl
   where
-    go : (b : Bool) → ltb t 140 ≡ b → (m : ℕ) × (lag_min (pos t) ≡ pos m) × (20 ≤ m) × (m ≤ 134)
-    go true e = let h = ltb-true t 140 e in (max 20 (t - 5), lag_min_low t h, omega arith, omega arith)
-    go false e = (134, lag_min_high t (ltb-false t 140 e), lit≤ tt, lit≤ tt)
+    go : (b : Bool) → ltb t 140 ≡ b → lag_min (pos t) ≡ pos (max 20 (min (t - 5) 134))
+    go true e = lag_min_low t (ltb-true t 140 e) ∙ ap pos (omega (arith, ltb-true))
+    go false e = lag_min_high t (ltb-false t 140 e) ∙ ap pos (omega (arith, ltb-false))
 
 -- ---- subframes 1 and 3
 moved : (q m : ℕ) → q ≤ 85 → 20 ≤ m → m ≤ 134 → add (sub (pos q) (pos 1)) (pos m) ≡ pos (m + q - 1)
@@ -142,12 +142,12 @@ absolute_lawful n h = go (ltb n 197) refl
 
 pub relative_lawful : (n t : ℕ) → n < 32 → Lawful (relative (pos n) (pos t))
 relative_lawful n t h =
-    let m = lag_min_range t in
-    rw (relative_is n t m.0 (omega arith) m.1 m.2 m.3)
+    let m = max 20 (min (t - 5) 134) in
+    rw (relative_is n t m (omega arith) (lag_min_is t) (omega arith) (omega arith))
     (record {
-      samples = m.0 + (n + 2) / 3 - 1;
+      samples = m + (n + 2) / 3 - 1;
       is = refl;
-      from = omega (arith, m.2);
-      to = omega (arith, m.3);
-      last = λ e. let k : n ≡ 31 = omega (arith, m.3) in rw k (thirds_is 31 (lit< tt));
+      from = omega arith;
+      to = omega arith;
+      last = λ e. let k : n ≡ 31 = omega arith in rw k (thirds_is 31 (lit< tt));
     })

@@ -1,18 +1,19 @@
 // Lags from pitch indices: Dec_lag3 of TS 26.073.
 #![tactic(auto)]
 
-ghost use Rattle.std.specs.Prelude.{◌≡◌, pos};
+ghost use Rattle.std.specs.Prelude.{◌≡◌, ◌≤◌, pos};
 ghost use Rattle.pitch.specs.Lag.{absolute, relative, lag_min, thirds_of, lag_of};
 
 // A part of a sample, in thirds.
-#[derive(Clone, Copy)]
+#[derive(Clone, Copy, PartialEq, Eq, Debug)]
 pub enum Fraction {
     MinusThird,
     Zero,
     PlusThird,
 }
 
-#[derive(Clone, Copy)]
+// A lag of whole samples and a part of one.
+#[derive(Clone, Copy, PartialEq, Eq, Debug)]
 pub struct PitchLag {
     pub samples: u16,
     pub fraction: Fraction,
@@ -35,28 +36,19 @@ impl Fraction {
 fn fraction_of(index: u8) -> Fraction
     ensures { thirds_of result ≡ (relative (pos index) (pos 0)).thirds }
 {
-    let rest = index % 3;
-    let third = rest == 0;
-    if third {
-        return Fraction::PlusThird;
+    match index % 3 {
+        0 => Fraction::PlusThird,
+        1 => Fraction::MinusThird,
+        _ => Fraction::Zero,
     }
-    if rest == 1 {
-        return Fraction::MinusThird;
-    }
-    Fraction::Zero
 }
 
 // the least lag that a relative index gives, after the lag `previous`
 fn least(previous: u16) -> u16
-    ensures { pos result ≡ lag_min (pos previous) }
+    ensures value { pos result ≡ lag_min (pos previous) }
+    ensures range { (20 ≤ result) × (result ≤ 134) }
 {
-    if previous < 25 {
-        return 20;
-    }
-    if 139 < previous {
-        return 134;
-    }
-    previous - 5
+    previous.saturating_sub(5).clamp(20, 134)
 }
 
 impl PitchLag {
@@ -65,14 +57,15 @@ impl PitchLag {
         ensures { lag_of result ≡ absolute (pos index) }
     {
         if index < 197 {
-            return PitchLag {
+            PitchLag {
                 samples: (index as u16 + 2) / 3 + 19,
                 fraction: fraction_of(index),
-            };
-        }
-        PitchLag {
-            samples: index as u16 - 112,
-            fraction: Fraction::Zero,
+            }
+        } else {
+            PitchLag {
+                samples: index as u16 - 112,
+                fraction: Fraction::Zero,
+            }
         }
     }
 

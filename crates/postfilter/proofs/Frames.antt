@@ -1,27 +1,27 @@
 -- A frame by its four subframes. Assumes nothing.
 use Prim.Native.Nat.{ℕ, zero, suc, ◌+◌, ◌-◌, ◌*◌, ◌<◌}
 use mathlib.Core.Path.{◌≡◌, refl, sym, ◌∙◌}
-use mathlib.Core.List.{List}
+use mathlib.Core.List.{List, [], ◌∷◌}
 use native.Mathlib.Numerals.{add-one}
 use native.Mathlib.Omega.{arith}
 use lib.IntN.{ℤ}
-use lib.ListN.{length, take, drop}
+use lib.ListN.{length, take, get_or}
 use lib.Seq.{take_all}
 use borrow.Rule.Slice.PartMut.{put_mid}
 use Rattle.lists.specs.Lists.{iter}
 use Rattle.lists.proofs.Put.{put_length, put_front}
 use Rattle.lpc.specs.declared.Rows.{Rows}
 use Rattle.postfilter.specs.declared.Postfilter.{Postfilter}
-use Rattle.postfilter.specs.declared.FilteredSubframe.{FilteredSubframe}
-use Rattle.postfilter.specs.declared.FilteredFrame.{FilteredFrame}
+use Rattle.postfilter.specs.declared.Postfiltered.{Postfiltered}
 use Rattle.postfilter.specs.Postfilter.{PostfilterResult, filter_result, row_at, part, process_next, process_from, postfilter_result}
 
--- the fourth row, by the tests of the first three
-pub row_fourth : (rows : Rows) (k : ℕ) → (k ≡ 0 → ⊥) → (k ≡ 1 → ⊥) → (k ≡ 2 → ⊥) → rows.d ≡ row_at rows k
-row_fourth rows zero h i j = absurd (h refl)
-row_fourth rows (suc zero) h i j = absurd (i refl)
-row_fourth rows (suc (suc zero)) h i j = absurd (j refl)
-row_fourth rows (suc (suc (suc k))) h i j = refl
+-- the rows as one list
+pub row_listed : (rows : Rows) (k : ℕ) (d : List ℤ) → k < 4 → get_or (rows.a ∷ rows.b ∷ rows.c ∷ rows.d ∷ []) k d ≡ row_at rows k
+row_listed rows zero d h = refl
+row_listed rows (suc zero) d h = refl
+row_listed rows (suc (suc zero)) d h = refl
+row_listed rows (suc (suc (suc zero))) d h = refl
+row_listed rows (suc (suc (suc (suc k)))) d h = absurd (omega (arith, h))
 
 -- ---- the loop over the subframes: after k of them
 abbrev so_far : Postfilter → Rows → List ℤ → ℕ → PostfilterResult
@@ -37,12 +37,12 @@ unfolding iter
 framing_none m rows ys out l = record { room = l; made = refl; memory = refl }
 
 -- the samples of subframe k as they were lent, and those made as they were put
-pub framing_more : {m carried : Postfilter} {rows : Rows} {ys out last row xs : List ℤ} {f : FilteredSubframe} {k : ℕ} → Framing m rows ys out carried k → k < 4 → row ≡ row_at rows k → xs ≡ take (40 * k + 40 - 40 * k) (drop (40 * k) ys) → f ≡ (filter_result carried row xs).output → length last ≡ 40 → last ≡ f.samples → Framing m rows ys (put_mid (40 * k) (40 * k + 40 - 40 * k) out last) f.memory (k + 1)
+pub framing_more : {m carried : Postfilter} {rows : Rows} {ys out last row xs : List ℤ} {f : Postfiltered 40} {k : ℕ} → Framing m rows ys out carried k → k < 4 → row ≡ row_at rows k → xs ≡ part ys k → f ≡ (filter_result carried row xs).output → length last ≡ 40 → last ≡ f.samples → Framing m rows ys (put_mid (40 * k) (40 * k + 40 - 40 * k) out last) f.memory (k + 1)
 unfolding iter
 framing_more {m} {carried} {rows} {ys} {out} {last} {row} {xs} {f} {k} r h er ex ef l el =
     let n : 40 * suc k ≡ 40 * k + 40 = omega arith in
     let d : 40 * k + 40 - 40 * k ≡ 40 = omega arith in
-    let e : f ≡ (filter_result (so_far m rows ys k).output.memory (row_at rows k) (part ys k)).output = ef ∙ rw (er, rw d at ex, r.memory) in
+    let e : f ≡ (filter_result (so_far m rows ys k).output.memory (row_at rows k) (part ys k)).output = ef ∙ rw (er, ex, r.memory) in
     rw (add-one k, d)
     (record {
       room = put_length (40 * k) 40 out last l (omega (arith, r.room)) ∙ r.room;
@@ -50,7 +50,7 @@ framing_more {m} {carried} {rows} {ys} {out} {last} {row} {xs} {f} {k} r h er ex
       memory = rw e;
     })
 
-pub framing_done : {m carried : Postfilter} {rows : Rows} {ys out : List ℤ} {k : ℕ} → Framing m rows ys out carried k → k ≡ 4 → ◌≡◌ {A = FilteredFrame} (record { samples = out; memory = carried }) (postfilter_result m rows ys).output
+pub framing_done : {m carried : Postfilter} {rows : Rows} {ys out : List ℤ} {k : ℕ} → Framing m rows ys out carried k → k ≡ 4 → ◌≡◌ {A = Postfiltered 160} (record { samples = out; memory = carried }) (postfilter_result m rows ys).output
 unfolding postfilter_result
 framing_done {m} {carried} {rows} {ys} {out} {k} r e =
     let s : out ≡ (so_far m rows ys 4).output.samples = sym (take_all 160 out (omega (arith, r.room))) ∙ rw e at r.made in

@@ -1,21 +1,25 @@
 -- The residual's sum: where the row's weight is below 32768 no step clamps. Assumes nothing.
 use Prim.Native.Nat.{ℕ, suc, ◌+◌, ◌*◌, ◌-◌, ◌^◌, ◌≤◌, ◌<◌}
-use mathlib.Core.Path.{◌≡◌, ◌∙◌}
+use mathlib.Core.Path.{◌≡◌, sym, ◌∙◌}
 use mathlib.Core.Bool.{Bool, true}
 use mathlib.Core.List.{List}
-use native.Mathlib.Nat.{le_refl}
+use native.Mathlib.Nat.{le_refl, add_comm}
 use native.Mathlib.Numerals.{add-one}
 use native.Mathlib.Omega.{arith}
 use lib.IntN.{ℤ, pos, nat_abs}
 use lib.Signed.{mag}
 use Rattle.lists.specs.Lists.{at}
-use Rattle.lists.proofs.Count.{Iter, iter_none, iter_more}
+use lib.ListN.{length, take, drop}
+use lib.Seq.{get_or-take, length-take-le}
+use Rattle.lists.proofs.Entries.{at_drop}
+use Rattle.lists.proofs.Count.{Iter, iter_none, iter_more, iter_same}
 use Rattle.basicop.specs.Ops.{l_mult, l_mac}
 use Rattle.basicop.specs.Inner.{sizes}
 use Rattle.basicop.proofs.Range.{nat_abs_in, mul_bound}
 use Rattle.basicop.proofs.Unclamped.{mac_first, sizes_most, Step, step}
+use Rattle.synthesis.specs.Recursion.{ago}
 use Rattle.synthesis.specs.Inner.{weight}
-use Rattle.postfilter.specs.Residual.{residual_step}
+use Rattle.postfilter.specs.Residual.{residual_step, residual_sum}
 
 -- the sum after j steps
 pub record Summed (a x : List ℤ) (p : ℕ) (plain : Bool) (s : ℤ) (j : ℕ) : Type 0 where
@@ -49,3 +53,20 @@ module _ (a x : List ℤ) (p : ℕ) {plain : Bool} (light : plain ≡ true → w
     pub summed_more : {t : ℤ} → t ≡ l_mac s c v → Summed a x p plain t (j + 1)
     unfolding sizes
     summed_more e = record { run = iter_more r.run (rw (← add-one j) e); size = λ q. rw (e, add-one (j + 1)) (next q).size }
+
+-- an input reads no more than itself and the ten before it
+pub residual_window : (a x : List ℤ) (n : ℕ) → n + 11 ≤ length x → residual_sum a (take 11 (drop n x)) 10 ≡ residual_sum a x (n + 10)
+unfolding residual_sum
+residual_window a x n h =
+    rw (entry 10 (omega arith)) (iter_same 10 (l_mult (at x (n + 10)) (at a 0)) (λ j l s.
+    let e : n + (10 - suc j) ≡ n + 10 - suc j = omega arith in
+    rw (entry (10 - suc j) (omega arith), e)))
+  where
+    entry : (i : ℕ) → i < 11 → at (take 11 (drop n x)) i ≡ at x (n + i)
+    entry i l = get_or-take 11 (drop n x) i (pos 0) l ∙ sym (rw (add_comm n i) (at_drop x n i))
+
+-- the input that step j takes, of the ten before the last
+pub ago_input : (x : List ℤ) (j : ℕ) → length x ≡ 11 → j < 10 → ago (take 10 x) (suc j) ≡ at x (10 - (j + 1))
+ago_input x j l h =
+    let n : length (take 10 x) ≡ 10 = length-take-le 10 x (omega (arith, l)) in
+    rw (n, ← add-one j) (get_or-take 10 x (10 - (j + 1)) (pos 0) (omega arith))

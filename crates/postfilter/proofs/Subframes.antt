@@ -8,7 +8,7 @@ use Rattle.synthesis.specs.Synthesis as synthesis
 use Rattle.energy.specs.declared.Controlled.{Controlled}
 use Rattle.energy.specs.Gain.{agc}
 use Rattle.postfilter.specs.declared.Postfilter.{Postfilter}
-use Rattle.postfilter.specs.declared.FilteredSubframe.{FilteredSubframe}
+use Rattle.postfilter.specs.declared.Postfiltered.{Postfiltered}
 use Rattle.postfilter.specs.Weight.{numerator, denominator, weighted}
 use Rattle.postfilter.specs.Residual.{residual}
 use Rattle.postfilter.specs.Tilt.{impulse, tilt_of, tilt}
@@ -26,6 +26,6 @@ pub filtered_by :
     → s ≡ synthesis.filtered den fed m.synthesis_history
     → g ≡ (agc m.gain.previous_gain ys s.samples).value
     → h ≡ synthesis.newest 10 ys
-    → ◌≡◌ {A = FilteredSubframe} (record { samples = g.samples; memory = record { input_history = h; synthesis_history = s.history; previous_residual = last; gain = g.control } }) (filter_result m a ys).output
+    → ◌≡◌ {A = Postfiltered 40} (record { samples = g.samples; memory = record { input_history = h; synthesis_history = s.history; previous_residual = last; gain = g.control } }) (filter_result m a ys).output
 unfolding filter_result tilt synthesis.filtered
 filtered_by m a ys en ed et ef el es eg eh = rw (eg, es, ef, el, et, en, ed, eh)

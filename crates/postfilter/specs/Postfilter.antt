@@ -10,13 +10,12 @@ use Rattle.postfilter.specs.Residual.{residual}
 use Rattle.postfilter.specs.Tilt.{tilt}
 use Rattle.postfilter.specs.Preemphasis.{preemphasised}
 use Rattle.postfilter.specs.declared.Postfilter.{Postfilter}
-use Rattle.postfilter.specs.declared.FilteredSubframe.{FilteredSubframe}
-use Rattle.postfilter.specs.declared.FilteredFrame.{FilteredFrame}
+use Rattle.postfilter.specs.declared.Postfiltered.{Postfiltered}
 
 -- ---- a subframe
 -- output: the samples and the next memory
 pub record FilterResult : Type 0 where
-  pub output : FilteredSubframe
+  pub output : Postfiltered 40
   pub tilt : ℤ
   pub quotients : List Quotient
 
@@ -50,7 +49,7 @@ filter_result m a ys =
 
 -- ---- a frame
 pub record PostfilterResult : Type 0 where
-  pub output : FilteredFrame
+  pub output : Postfiltered 160
   pub tilts : List ℤ
   pub quotients : List Quotient
 

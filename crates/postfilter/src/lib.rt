@@ -5,15 +5,16 @@ ghost use Rattle.std.specs.Prelude.{◌≡◌, ◌++◌};
 ghost use Rattle.lists.specs.Lists.{at};
 ghost use Rattle.postfilter.specs.Residual.{residual};
 ghost use Rattle.postfilter.specs.Preemphasis.{emphasised, preemphasised};
-ghost use Rattle.postfilter.specs.Postfilter.{filter_result, row_at, postfilter_result};
+ghost use Rattle.postfilter.specs.Postfilter.{filter_result, postfilter_result};
 
 mod tilting;
 mod whitening;
 
 use basicop::{Q15, mult, sub};
-use copy::copy;
-use energy::GainControl;
+use copy::stretch;
+use energy::{Controlled, GainControl};
 use lpc::Rows;
+use synthesis::Filtered;
 use tilting::{impulse, tilt_of};
 use whitening::{residual, weight};
 
@@ -26,17 +27,10 @@ pub struct Postfilter {
     pub gain: GainControl,
 }
 
-// The samples of a subframe, and the memory after it.
+// N samples, of a subframe or of a frame, and the memory after them.
 #[derive(Drop)]
-pub struct FilteredSubframe {
-    pub samples: [i16; 40],
-    pub memory: Postfilter,
-}
-
-// The samples of a frame, and the memory after it.
-#[derive(Drop)]
-pub struct FilteredFrame {
-    pub samples: [i16; 160],
+pub struct Postfiltered<const N: usize> {
+    pub samples: [i16; N],
     pub memory: Postfilter,
 }
 
@@ -56,13 +50,14 @@ fn emphasised(residual: i16, before: i16, tilt: Q15) -> i16
 fn preemphasis(residual: [i16; 40], tilt: Q15, carried: i16) -> [i16; 40]
     ensures { result ≡ preemphasised tilt.0 carried residual }
 {
-    let mut r = residual;
+    let mut out = residual;
     let mut previous = carried;
-    for i in 0..40 {
-        r[i] = emphasised(residual[i], previous, tilt);
-        previous = residual[i];
+    for r in &mut out {
+        let here = *r;
+        *r = emphasised(here, previous, tilt);
+        previous = here;
     }
-    r
+    out
 }
 
 // ---- a subframe
@@ -91,70 +86,60 @@ fn excitation(
 }
 
 // One subframe, from its row and its synthesis samples.
-fn filter(memory: Postfilter, coefficients: [i16; 11], samples: [i16; 40]) -> FilteredSubframe
+fn filter(memory: Postfilter, coefficients: [i16; 11], samples: [i16; 40]) -> Postfiltered<40>
     ensures { result ≡ (filter_result memory coefficients samples).output }
 {
-    let numerators = NUMERATOR;
-    let denominators = DENOMINATOR;
-    let numerator = weight(coefficients, &numerators);
-    let denominator = weight(coefficients, &denominators);
+    let Postfilter {
+        input_history,
+        synthesis_history,
+        previous_residual,
+        gain,
+    } = memory;
+    let numerator = weight(coefficients, &NUMERATOR);
+    let denominator = weight(coefficients, &DENOMINATOR);
     let tilt = tilt_of(impulse(numerator, denominator));
-    let history = memory.input_history;
-    let carried = memory.previous_residual;
-    let excited = excitation(numerator, tilt, history, carried, samples);
-    let fed = excited.samples;
-    let last = excited.last;
-    let past = memory.synthesis_history;
-    let out = synthesis::filter(denominator, fed, past);
-    let unscaled = out.samples;
-    let synthesis_history = out.history;
-    let gain = memory.gain;
-    let controlled = energy::control_gain(gain, samples, unscaled);
-    let scaled = controlled.samples;
-    let control = controlled.control;
+    let Excited {
+        samples: fed,
+        last: previous_residual,
+    } = excitation(numerator, tilt, input_history, previous_residual, samples);
+    let Filtered {
+        samples: unscaled,
+        history: synthesis_history,
+    } = synthesis::filter(denominator, fed, synthesis_history);
+    let Controlled {
+        samples: scaled,
+        control: gain,
+    } = energy::control_gain(gain, samples, unscaled);
     let input_history = synthesis::newest(samples);
-    FilteredSubframe {
+    Postfiltered {
         samples: scaled,
         memory: Postfilter {
             input_history,
             synthesis_history,
-            previous_residual: last,
-            gain: control,
+            previous_residual,
+            gain,
         },
     }
 }
 
 // ---- a frame
-// The row of a subframe.
-fn row_of(rows: Rows, subframe: usize) -> [i16; 11]
-    ensures { result ≡ row_at rows subframe }
-{
-    match subframe {
-        0 => rows.a,
-        1 => rows.b,
-        2 => rows.c,
-        _ => rows.d,
-    }
-}
-
 // Post_Filter over the four subframes of a frame, from its rows and synthesis samples.
-pub fn process(memory: Postfilter, samples: [i16; 160], rows: Rows) -> FilteredFrame
+pub fn process(memory: Postfilter, samples: [i16; 160], rows: Rows) -> Postfiltered<160>
     ensures { result ≡ (postfilter_result memory rows samples).output }
 {
     let mut out = samples;
     let mut carried = memory;
-    for k in 0..4 {
+    let Rows { a, b, c, d } = rows;
+    for (k, row) in [a, b, c, d].iter().enumerate() {
         let from = 40 * k;
-        let row = row_of(rows, k);
-        let mut input = [0i16; 40];
-        copy(&mut input, &samples[from..from + 40]);
-        let filtered = filter(carried, row, input);
-        let made = filtered.samples;
-        copy(&mut out[from..from + 40], &made);
-        let left = filtered.memory;
+        let Postfiltered {
+            samples: made,
+            memory: left,
+        } = filter(carried, *row, stretch(&samples, from));
+        out[from..from + 40].copy_from_slice(&made);
         carried = left;
     }
-    FilteredFrame {
+    Postfiltered {
         samples: out,
         memory: carried,
     }

@@ -1,27 +1,16 @@
 // The tilt of Post_Filter of TS 26.073, from the impulse response of the weighted filters.
-ghost use Rattle.std.specs.Prelude.{◌≡◌, ◌++◌, pos, replicate};
+ghost use Rattle.std.specs.Prelude.{◌≡◌};
 ghost use Rattle.postfilter.specs.Tilt.{impulse, correlation, tilt_of};
 
 use basicop::{Q15, div_s, extract_h, l_mac, mult};
-use copy::copy;
-
-// A row, and zeros after it.
-fn padded(row: [i16; 11]) -> [i16; 40]
-    ensures { result ≡ row ++ replicate 29 (pos 0) }
-{
-    let mut r = [0i16; 40];
-    copy(&mut r[0..11], &row);
-    r
-}
+use copy::padded;
 
 // The impulse response.
 pub fn impulse(numerator: [i16; 11], denominator: [i16; 11]) -> [i16; 22]
     ensures { result ≡ impulse numerator denominator }
 {
-    let samples = synthesis::first_samples(denominator, padded(numerator), [0i16; 10], 22);
-    let mut r = [0i16; 22];
-    copy(&mut r, &samples[0..22]);
-    r
+    let samples = synthesis::first_samples(denominator, padded(&numerator), [0; 10], 22);
+    *samples.first_chunk().unwrap()
 }
 
 // Each sample by the next.
@@ -29,8 +18,8 @@ fn correlation(h: [i16; 22]) -> i32
     ensures { result ≡ correlation h }
 {
     let mut s = 0;
-    for k in 0..21 {
-        s = l_mac(s, h[k], h[k + 1]);
+    for (a, b) in h.iter().zip(&h[1..]) {
+        s = l_mac(s, *a, *b);
     }
     s
 }

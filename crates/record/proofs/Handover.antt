@@ -8,7 +8,8 @@ use lib.Dec.{ltb}
 use lib.ListN.{length, take, drop, length-append}
 use lib.Seq.{take_at, drop_at}
 use borrow.Author.Tests.{le-ltb}
-use Rattle.outcome.specs.declared.Outcome.TheVariants.{Accepted, RecordShort, BodyShort}
+use Rattle.std.specs.Prelude.{Ok}
+use Rattle.outcome.specs.declared.Refusal.TheVariants.{RecordShort, BodyShort}
 use Rattle.outcome.specs.Outcome.{is_accepted}
 use Rattle.outcome.specs.Checks.{first_met}
 use Rattle.outcome.proofs.Checks.{unmet, none_left, passed}
@@ -77,19 +78,19 @@ module _ (s : State) (w : WellFormed s) (note : List ℕ) where
   bytes_right : is_accepted (first_met (byte_checks b)) ≡ true
   bytes_right =
       let body-there = none_left ∙ unmet (ltb (length b - 8) (distance_of b)) BodyShort [] (le-ltb (length b - 8) (distance_of b) (omega (arith, distance, total))) in
-      let trailer-there = passed (trailer_checks (end_of b)) (body_checks (length b - 8) (distance_of b)) tt trailer_right in
+      let trailer-there = passed (trailer_checks (end_of b)) (body_checks (length b - 8) (distance_of b)) trailer_right in
       let size-there = unmet (ltb (length b) 8) RecordShort (trailer_checks (end_of b) ++ body_checks (length b - 8) (distance_of b)) (le-ltb (length b) 8 (omega (arith, total))) in
       ap is_accepted (sym (body-there ∙ trailer-there ∙ size-there))
 
   outcome_same : record_outcome b ≡ state_outcome s
   unfolding record_outcome state_outcome
-  outcome_same = sym (passed (byte_checks b) (state_checks (state_of (numbers_in b))) tt bytes_right) ∙ ap (λ (t : State). first_met (state_checks t)) state_is
+  outcome_same = sym (passed (byte_checks b) (state_checks (state_of (numbers_in b))) bytes_right) ∙ ap (λ (t : State). first_met (state_checks t)) state_is
 
-  back : state_outcome s ≡ Accepted → read_call b ≡ read_result (record { outcome = Accepted; state = s }) note
+  back : state_outcome s ≡ Ok tt → read_call b ≡ read_result (record { outcome = Ok tt; state = s }) note
   unfolding read_call
   back a =
       rw (outcome_same ∙ a)
-      (λ i. read_result (record { outcome = Accepted; state = state_is i }) ((ap₂ take note_is parts ∙ take_at note (body ++ trailer_bytes) (length note) refl) i))
+      (λ i. read_result (record { outcome = Ok tt; state = state_is i }) ((ap₂ take note_is parts ∙ take_at note (body ++ trailer_bytes) (length note) refl) i))
 
 pub read_back : ReadBack
 read_back s w a note = back s w note a

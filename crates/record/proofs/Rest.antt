@@ -1,5 +1,5 @@
 -- What stands behind the note of an accepted record is the record of its state. Assumes nothing.
-use mathlib.Core.Path.{◌≡◌, refl, ap, ap₂, sym, ◌∙◌}
+use mathlib.Core.Path.{◌≡◌, ap, ap₂, sym, ◌∙◌}
 use mathlib.Core.Bool.{true}
 use mathlib.Core.List.{List, [], ◌∷◌, ◌++◌}
 use Prim.Native.Nat.{ℕ, zero, suc, ◌+◌, ◌-◌, ◌≤◌}
@@ -33,26 +33,25 @@ module _ (b : List ℕ) (bytes : Bytes b) (y : is_accepted (record_outcome b) �
   shown = bytes_accepted b y
 
   note_length_lem : length (read_call b).note ≡ length b - 402
-  note_length_lem = ap length (sym (note_accepted b refl y)) ∙ length-take-le (length b - 402) b (omega arith)
+  note_length_lem = ap length (sym (note_accepted b y)) ∙ length-take-le (length b - 402) b (omega arith)
 
   body_bytes : bytes_of (numbers_in b) ≡ lent_body b
   body_bytes =
       ap bytes_of (sym (body_numbers b shown))
-      ∙ bytes_back 197 (lent_body b) (body_length_lem b shown) (take_bytes (length b - 8 - (length b - 402)) (drop (length b - 402) b) (drop_bytes (length b - 402) b bytes))
+      ∙ bytes_back 197 (lent_body b) (body_length_lem b shown) (take_bytes 394 (drop (length b - 402) b) (drop_bytes (length b - 402) b bytes))
 
   numbers_here : numbers_of (read_call b).answer.state ≡ numbers_in b
   numbers_here =
       let e = ap length body_bytes in
       let k : length (numbers_in b) ≡ 197 = omega (arith, e, bytes_length (numbers_in b), body_length_lem b shown) in
-      ap numbers_of (sym (state_accepted b refl y)) ∙ numbers_of_state (numbers_in b) k
+      ap numbers_of (sym (state_accepted b y)) ∙ numbers_of_state (numbers_in b) k
 
   rest_parts : drop (length b - 402) b ≡ lent_body b ++ drop (length b - 8) b
   rest_parts =
       let w = whole b shown in
-      let k : length b - 8 - (length b - 402) ≡ 394 = omega (arith, w) in
       let m : length b - 402 + 394 ≡ length b - 8 = omega (arith, w) in
       sym (take-append-drop 394 (drop (length b - 402) b))
-      ∙ ap₂ (λ (n : ℕ) (r : List ℕ). take n (drop (length b - 402) b) ++ r) (sym k) (drop-drop 394 (length b - 402) b ∙ ap (λ (n : ℕ). drop n b) m)
+      ∙ ap (λ (r : List ℕ). lent_body b ++ r) (drop-drop 394 (length b - 402) b ∙ ap (λ (n : ℕ). drop n b) m)
 
   pub rest_is : drop (length (read_call b).note) b ≡ encoded (read_call b).answer.state
   unfolding encoded

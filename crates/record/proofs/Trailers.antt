@@ -7,57 +7,12 @@ use native.Mathlib.Omega.{arith}
 use lib.Dec.{T, eqb}
 use lib.ListN.{length, take, drop, get_or, length-drop}
 use lib.Seq.{take_all}
-use borrow.Author.Tests.{eq-eqb, ne_eqb, eqb-true, not-false}
-use Rattle.outcome.specs.declared.Outcome.TheVariants.{Accepted, Tag, Version, Layout}
+use borrow.Author.Tests.{eqb-true, not-false}
 use Rattle.outcome.specs.Outcome.{is_accepted}
 use Rattle.outcome.specs.Checks.{first_met}
 use Rattle.outcome.proofs.Checks.{none_met}
-use Rattle.coding.specs.Bytes.{unsigned, bytes_of, Bytes}
+use Rattle.coding.specs.Bytes.{bytes_of, Bytes}
 use Rattle.record.specs.Record.{Trailer, current, versions, trailer_of, field_at, trailer_checks, trailer_bytes}
-
--- ---- 12 to 14, test by test
-module _ (t : List ℕ) where
-  abbrev p : ℕ
-  p = get_or t 0 0
-
-  abbrev q : ℕ
-  q = get_or t 1 0
-
-  abbrev v : ℕ
-  v = unsigned (get_or t 2 0) (get_or t 3 0)
-
-  abbrev d : ℕ
-  d = unsigned (get_or t 4 0) (get_or t 5 0)
-
-  abbrev n : ℕ
-  n = unsigned (get_or t 6 0) (get_or t 7 0)
-
-  pub first_differs : (p ≡ 0x4D → ⊥) → Tag ≡ first_met (trailer_checks t)
-  unfolding first_met
-  first_differs a = rw (ne_eqb _ _ a)
-
-  module _ (a : p ≡ 0x4D) where
-    pub second_differs : (q ≡ 0x37 → ⊥) → Tag ≡ first_met (trailer_checks t)
-    unfolding first_met
-    second_differs b = rw (eq-eqb _ _ a, ne_eqb _ _ b)
-
-    module _ (b : q ≡ 0x37) where
-      pub version_differs : (v ≡ 1 → ⊥) → Version ≡ first_met (trailer_checks t)
-      unfolding first_met
-      version_differs c = rw (eq-eqb _ _ a, eq-eqb _ _ b, ne_eqb _ _ c)
-
-      module _ (c : v ≡ 1) where
-        pub distance_differs : (d ≡ 394 → ⊥) → Layout ≡ first_met (trailer_checks t)
-        unfolding first_met
-        distance_differs f = rw (eq-eqb _ _ a, eq-eqb _ _ b, eq-eqb _ _ c, ne_eqb _ _ f)
-
-        pub count_differs : d ≡ 394 → (n ≡ 197 → ⊥) → Layout ≡ first_met (trailer_checks t)
-        unfolding first_met
-        count_differs f g = rw (eq-eqb _ _ a, eq-eqb _ _ b, eq-eqb _ _ c, eq-eqb _ _ f, ne_eqb _ _ g)
-
-        pub trailer_passes : d ≡ 394 → n ≡ 197 → Accepted ≡ first_met (trailer_checks t)
-        unfolding first_met
-        trailer_passes f g = rw (eq-eqb _ _ a, eq-eqb _ _ b, eq-eqb _ _ c, eq-eqb _ _ f, eq-eqb _ _ g)
 
 -- ---- of the 8 bytes that end a record
 pub tail : (b : List ℕ) (k : ℕ) → take (length b - k) (drop k b) ≡ drop k b
@@ -87,7 +42,7 @@ listed (a ∷ b ∷ c ∷ d ∷ e ∷ f ∷ g ∷ h ∷ x ∷ t) l = absurd (ome
 
 module _ (t : List ℕ) (h : is_accepted (first_met (trailer_checks t)) ≡ true) where
   version_one : eqb (field_at t 2) 1 ≡ true
-  version_one = only_one (eqb (field_at t 2) 1) (not-false _ (none_met (trailer_checks t) tt h).1.0)
+  version_one = only_one (eqb (field_at t 2) 1) (not-false _ (none_met (trailer_checks t) h).1.0)
 
   trailer_one : trailer_of (field_at t 2) versions ≡ current
   trailer_one = rw (trailer_of, version_one)
@@ -98,14 +53,14 @@ module _ (t : List ℕ) (h : is_accepted (first_met (trailer_checks t)) ≡ true
   layout : (field_at t 4 ≡ 394) × (field_at t 6 ≡ 197)
   layout =
       let v = trailer_of (field_at t 2) versions in
-      let right : eqb (field_at t 4) v.distance && eqb (field_at t 6) v.count ≡ true = not-false _ (none_met (trailer_checks t) tt h).1.1.0 in
+      let right : eqb (field_at t 4) v.distance && eqb (field_at t 6) v.count ≡ true = not-false _ (none_met (trailer_checks t) h).1.1.0 in
       let l = both (eqb (field_at t 4) current.distance) (eqb (field_at t 6) current.count) (rw trailer_one at right) in
       (eqb-true (field_at t 4) 394 l.0, eqb-true (field_at t 6) 197 l.1)
 
   pub trailer_is : length t ≡ 8 → Bytes t → t ≡ trailer_bytes
   unfolding bytes_of
   trailer_is k bytes =
-      let m = both (eqb (get_or t 0 0) 0x4D) (eqb (get_or t 1 0) 0x37) (not-false _ (none_met (trailer_checks t) tt h).0) in
+      let m = both (eqb (get_or t 0 0) 0x4D) (eqb (get_or t 1 0) 0x37) (not-false _ (none_met (trailer_checks t) h).0) in
       let v = eqb-true (field_at t 2) 1 version_one in
       let l = layout in
       let b₂ : get_or t 2 0 ≡ 1 = omega (arith, v, bytes 2) in

@@ -1,6 +1,6 @@
 -- A record is written part by part, and the writer's definition, case by case. Assumes nothing.
 use mathlib.Core.Path.{◌≡◌, refl, ap, ◌∙◌}
-use mathlib.Core.Bool.{true, false}
+use mathlib.Core.Bool.{true}
 use mathlib.Core.List.{List, [], ◌∷◌, ◌++◌}
 use Prim.Native.Nat.{ℕ}
 use native.Mathlib.Omega.{arith}
@@ -8,9 +8,13 @@ use lib.IntN.{pos}
 use lib.ListN.{length, set, length-append}
 use borrow.Rule.Slice.PartMut.{put_mid}
 use borrow.Author.Tests.{eqb-true, not-false}
-use Rattle.outcome.specs.declared.Outcome.{Outcome}
-use Rattle.outcome.specs.Outcome.{is_accepted}
+use Rattle.std.specs.Prelude.{Ok, Err}
+use Rattle.std.specs.Result.{IsErrAnd}
+use Rattle.std.proofs.lemmas.Result.{err_from_is_err_and}
+use Rattle.outcome.specs.declared.Refusal.{Refusal}
+use Rattle.outcome.specs.Outcome.{Outcome, is_accepted}
 use Rattle.outcome.specs.Checks.{first_met}
+use Rattle.outcome.proofs.Variants.{never_accepted}
 use Rattle.outcome.proofs.Checks.{both_accept, none_met}
 use Rattle.state.specs.declared.State.{State}
 use Rattle.state.specs.State.{state_checks}
@@ -45,15 +49,15 @@ module _ (s : State) (out y₁ y₂ : List ℕ) where
       laid_done s₂ k ∙ ap (λ (l : List ℕ). l ++ trailer_bytes) e₁
 
 -- ---- the call, of what its outcome is found to be
-module _ (s : State) (out : List ℕ) {o : Outcome} (e : o ≡ first_met (write_checks s (length out))) where
-  pub write_accepted : is_accepted o ≡ true → (last : List ℕ) → last ≡ encoded s → write_result o last ≡ write_call s out
+module _ (s : State) (out : List ℕ) where
+  pub write_accepted : Ok tt ≡ first_met (write_checks s (length out)) → (last : List ℕ) → last ≡ encoded s → write_result (Ok tt) last ≡ write_call s out
   unfolding write_call
-  write_accepted y last f = rw (← e, y) (ap (write_result o) f)
+  write_accepted e last f = rw (← e) (ap (write_result (Ok tt)) f)
 
-  pub write_refused : is_accepted o ≡ false → write_result o out ≡ write_call s out
+  pub write_refused : {o : Outcome} {r : Refusal} → Err r ≡ first_met (write_checks s (length out)) → IsErrAnd o (λ y. y ≡ r) → write_result o out ≡ write_call s out
   unfolding write_call
-  write_refused n = rw (← e, n)
+  write_refused {o} {r} e h = let p = err_from_is_err_and o h in rw (p.1, p.2, ← e, never_accepted r)
 
 -- an accepted call was lent the room of a record
 pub room_accepted : (s : State) (room : ℕ) → is_accepted (first_met (write_checks s room)) ≡ true → room ≡ 402
-room_accepted s room y = eqb-true room 402 (not-false _ (none_met (room_checks room) tt (both_accept (room_checks room) (state_checks s) tt y).0).0)
+room_accepted s room y = eqb-true room 402 (not-false _ (none_met (room_checks room) (both_accept (room_checks room) (state_checks s) y).0).0)

@@ -1,6 +1,5 @@
 -- What document 01 asks of the two calls together. The theorems are in proofs/Handover.antt.
-use Rattle.std.specs.Prelude.{◌≡◌, true, List, ◌++◌, ℕ, length, drop}
-use Rattle.outcome.specs.declared.Outcome.TheVariants.{Accepted}
+use Rattle.std.specs.Prelude.{◌≡◌, Ok, true, List, ◌++◌, ℕ, length, drop}
 use Rattle.outcome.specs.Outcome.{is_accepted}
 use Rattle.state.specs.declared.State.{State}
 use Rattle.state.specs.State.{WellFormed, state_outcome}
@@ -10,8 +9,8 @@ use Rattle.record.specs.Record.{read_result, version_of, read_call, encoded}
 -- what was written is read back, behind any note, with that note
 abbrev pub ReadBack : Type 0
 ReadBack =
-    (s : State) → WellFormed s → state_outcome s ≡ Accepted → (note : List ℕ)
-    → read_call (note ++ encoded s) ≡ read_result (record { outcome = Accepted; state = s }) note
+    (s : State) → WellFormed s → state_outcome s ≡ Ok tt → (note : List ℕ)
+    → read_call (note ++ encoded s) ≡ read_result (record { outcome = Ok tt; state = s }) note
 
 -- the record of a well-formed state, behind any note, is accepted exactly when the checks of the state pass it: it is turned back by the same check
 abbrev pub SameOutcome : Type 0

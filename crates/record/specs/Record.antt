@@ -1,9 +1,8 @@
 -- The handover record of document 01: a note of any length; a body of signed 16-bit numbers; a trailer of 8 bytes, which are
 -- the tag 4D 37, and, 16 bits each, version, distance back from the trailer to the body, and count of the body's numbers.
 use Rattle.std.specs.Prelude.{Bool, true, false, cond, not, ◌&&◌, List, [], ◌∷◌, ◌++◌, ℕ, ◌+◌, ◌-◌, eqb, ltb, ℤ, pos, length, take, drop, get_or, replicate}
-use Rattle.outcome.specs.declared.Outcome.{Outcome}
-use Rattle.outcome.specs.declared.Outcome.TheVariants.{OutputLength, RecordShort, Tag, Version, Layout, BodyShort}
-use Rattle.outcome.specs.Outcome.{is_accepted}
+use Rattle.outcome.specs.declared.Refusal.TheVariants.{OutputLength, RecordShort, Tag, Version, Layout, BodyShort}
+use Rattle.outcome.specs.Outcome.{Outcome, is_accepted}
 use Rattle.outcome.specs.Checks.{Check, check, first_met}
 use Rattle.state.specs.declared.State.{State}
 use Rattle.state.specs.State.{state_checks}

@@ -5,92 +5,80 @@ ghost use Rattle.record.specs.Record.{size_checks, trailer_checks, body_checks, 
 
 use super::{COUNT, DISTANCE, RECORD_BYTES, TRAILER_BYTES, VERSION};
 use coding::BODY_BYTES;
-use outcome::Outcome;
+use outcome::{Outcome, Refusal};
 use state::State;
 
 // 11: under 8 bytes.
+#[tactic(auto, unfolding(outcome::specs::Checks::first_met))]
 fn check_size(size: usize) -> Outcome
     ensures { result ≡ first_met (size_checks size) }
 {
     let short = size < TRAILER_BYTES;
     if short {
-        return Outcome::RecordShort;
+        return Err(Refusal::RecordShort);
     }
-    Outcome::Accepted
+    Ok(())
 }
 
 // 12 to 14: tag, version and layout, of the last 8 bytes.
+#[tactic(auto, unfolding(outcome::specs::Checks::first_met))]
 fn check_trailer(t: &[u8]) -> Outcome
     requires { length t.now ≡ 8 }
     ensures { result ≡ first_met (trailer_checks t.now) }
 {
     let other_first = t[0] != 0x4D;
-    if other_first {
-        return Outcome::Tag;
-    }
     let other_second = t[1] != 0x37;
-    if other_second {
-        return Outcome::Tag;
+    if other_first || other_second {
+        return Err(Refusal::Tag);
     }
     let other_version = coding::unsigned(t[2], t[3]) != VERSION;
     if other_version {
-        return Outcome::Version;
+        return Err(Refusal::Version);
     }
     let other_distance = coding::unsigned(t[4], t[5]) != DISTANCE;
-    if other_distance {
-        return Outcome::Layout;
-    }
     let other_count = coding::unsigned(t[6], t[7]) != COUNT;
-    if other_count {
-        return Outcome::Layout;
+    if other_distance || other_count {
+        return Err(Refusal::Layout);
     }
-    Outcome::Accepted
+    Ok(())
 }
 
 // 15: fewer bytes before the trailer than the version's distance.
+#[tactic(auto, unfolding(outcome::specs::Checks::first_met))]
 fn check_body(before: usize, distance: usize) -> Outcome
     ensures { result ≡ first_met (body_checks before distance) }
 {
     if before < distance {
-        return Outcome::BodyShort;
+        return Err(Refusal::BodyShort);
     }
-    Outcome::Accepted
+    Ok(())
 }
 
 // 11 to 15.
 pub fn check_bytes(bytes: &[u8]) -> Outcome
     ensures { result ≡ first_met (byte_checks bytes.now) }
 {
-    let n = bytes.len();
-    let size = check_size(n);
-    if !size.accepted() {
-        return size;
-    }
-    let end = n - TRAILER_BYTES;
-    let trailer = check_trailer(&bytes[end..]);
-    if !trailer.accepted() {
-        return trailer;
-    }
-    check_body(end, BODY_BYTES)
+    check_size(bytes.len())?;
+    let (before, trailer) = bytes.split_at(bytes.len() - TRAILER_BYTES);
+    check_trailer(trailer)?;
+    check_body(before.len(), BODY_BYTES)
 }
 
 // 5: the lent bytes are not as many as a record's.
+#[tactic(auto, unfolding(outcome::specs::Checks::first_met))]
 fn check_room(room: usize) -> Outcome
     ensures { result ≡ first_met (room_checks room) }
 {
     if room != RECORD_BYTES {
-        return Outcome::OutputLength;
+        return Err(Refusal::OutputLength);
     }
-    Outcome::Accepted
+    Ok(())
 }
 
 // In the order 5, 16, 17.
 pub fn check_write(state: State, room: usize) -> Outcome
     ensures { result ≡ first_met (write_checks state room) }
 {
-    let length = check_room(room);
-    if !length.accepted() {
-        return length;
-    }
+    check_room(room)?;
     state::check_state(state)
 }

@@ -1,8 +1,9 @@
 // The handover record: its reader and its writer.
 #![tactic(auto)]
 
-ghost use Rattle.std.specs.Prelude.{◌≡◌, length};
-ghost use Rattle.record.specs.Record.{record_length, refused_answer, read_call, read_result, trailer_bytes, encoded, write_result, write_call};
+ghost use Rattle.std.specs.Prelude.{◌≡◌, Ok, Err, MatchResult, length};
+ghost use Rattle.state.specs.Layout.{state_of};
+ghost use Rattle.record.specs.Record.{numbers_in, record_outcome, record_length, refused_answer, read_call, read_result, trailer_bytes, encoded, write_result, write_call};
 
 mod checks;
 
@@ -11,7 +12,7 @@ use checks::{check_bytes, check_write};
 use coding::BODY_BYTES;
 use decoder::Core;
 use energy::GainControl;
-use outcome::Outcome;
+use outcome::{Outcome, Refusal};
 use postfilter::Postfilter;
 use state::State;
 
@@ -44,11 +45,11 @@ pub struct Reading<'a> {
 }
 
 // A refused read gives the all-zero state.
-fn refused(outcome: Outcome) -> Answer
-    ensures { result ≡ refused_answer outcome }
+fn refused(refusal: Refusal) -> Answer
+    ensures { result ≡ refused_answer (Err refusal) }
 {
     Answer {
-        outcome,
+        outcome: Err(refusal),
         state: State {
             core: Core {
                 lsp: [0; state::LSP],
@@ -66,45 +67,48 @@ fn refused(outcome: Outcome) -> Answer
     }
 }
 
-// What a read answers beside the note: 11 to 15 are tested of the bytes, 16 and 17 of the state in them.
+// The state of a record: 11 to 15 are tested of the bytes, 16 and 17 of the state in them.
+fn read_state(bytes: &[u8]) -> Result<State, Refusal>
+    ensures { MatchResult result (λ s. (record_outcome bytes.now ≡ Ok tt) × (s ≡ state_of (numbers_in bytes.now))) (λ refusal. record_outcome bytes.now ≡ Err refusal) }
+{
+    check_bytes(bytes)?;
+    let (_note, record) = bytes.split_at(bytes.len() - RECORD_BYTES);
+    let state = coding::state_in(&record[..BODY_BYTES]);
+    state::check_state(state)?;
+    Ok(state)
+}
+
+// What a read answers beside the note.
 pub fn answer_of(bytes: &[u8]) -> Answer
     ensures { result ≡ (read_call bytes.now).answer }
 {
-    let shape = check_bytes(bytes);
-    if !shape.accepted() {
-        return refused(shape);
+    match read_state(bytes) {
+        Ok(state) => Answer {
+            outcome: Ok(()),
+            state,
+        },
+        Err(refusal) => refused(refusal),
     }
-    let n = bytes.len();
-    let start = n - RECORD_BYTES;
-    let end = n - TRAILER_BYTES;
-    let state = coding::state_in(&bytes[start..end]);
-    let outcome = state::check_state(state);
-    if !outcome.accepted() {
-        return refused(outcome);
-    }
-    Answer { outcome, state }
 }
 
 // What stands before the body: part of the lent bytes, none of them where the read is refused.
 pub fn note(bytes: &[u8]) -> &[u8]
     ensures { (result.now ≡ (read_call bytes.now).note) × (result.ref_ptr ≡ bytes.entry.ref_ptr) }
 {
-    let answer = answer_of(bytes);
-    let outcome = answer.outcome;
-    if outcome.accepted() {
-        let n = bytes.len() - RECORD_BYTES;
-        return &bytes[..n];
+    match read_state(bytes) {
+        Ok(_) => &bytes[..bytes.len() - RECORD_BYTES],
+        Err(_) => &bytes[..0],
     }
-    &bytes[..0]
 }
 
 // Reads a record. The note is the part of the lent bytes before the body, not a copy.
 pub fn read<'a>(bytes: &'a [u8]) -> Reading<'a>
     ensures { (read_result result.answer result.note.now ≡ read_call bytes.now) × (result.note.ref_ptr ≡ bytes.entry.ref_ptr) }
 {
-    let answer = answer_of(bytes);
-    let note = note(bytes);
-    Reading { answer, note }
+    Reading {
+        answer: answer_of(bytes),
+        note: note(bytes),
+    }
 }
 
 // ---- the writer
@@ -130,10 +134,7 @@ fn write_record(state: State, out: &mut [u8])
 pub fn write(state: State, out: &mut [u8]) -> Outcome
     ensures { write_result result out.new ≡ write_call state out.old }
 {
-    let outcome = check_write(state, out.len());
-    if outcome.accepted() {
-        write_record(state, out);
-        return outcome;
-    }
-    outcome
+    check_write(state, out.len())?;
+    write_record(state, out);
+    Ok(())
 }

@@ -1,3 +1,2 @@
--- Numbers: the numbers of a record's bytes. Comparisons: what a comparison says, by its parts and by loops.
-pub mod Numbers
-pub mod Comparisons
+-- Rows: four rows, each read where the one before ends.
+pub mod Rows

@@ -1,1 +1,1 @@
-pub mod Compare
+pub mod Words

@@ -1,96 +1,99 @@
-// Numbers of a record, read from the stretch of bytes that has them.
-ghost use Rattle.std.specs.Prelude.{◌≡◌, pos, ◌+ℤ◌, ◌*ℤ◌, length, get_or};
-ghost use Rattle.lists.specs.Parts.{joined};
+// A record's words, read one after another.
+ghost use Rattle.std.specs.Prelude.{◌≡◌, ◌↔◌, ℕ, ◌*◌, List, [], ◌∷◌, IsTrue, length, take, get_or};
+ghost use Rattle.lists.specs.Parts.{cut};
 ghost use Rattle.decoder.specs.Core.{row_list};
 ghost use Rattle.coding.specs.Bytes.{signed16, unsigned, words};
-ghost use Rattle.replay.specs.Compare.{long_of};
+ghost use Rattle.replay.specs.Words.{long_of, places_in, Reads};
 
-use coding::fill;
+use coding::numbers_in;
 use lpc::Rows;
+use std::marker::Model;
 
-// 16 bits, as they stand
-pub fn bits(b: &[u8]) -> u16
-    requires { length b.now ≡ 2 }
-    ensures { result ≡ unsigned (get_or b.now 0 0) (get_or b.now 1 0) }
-{
-    coding::unsigned(b[0], b[1])
+// A record in reading: contracts see the bytes that are left of it.
+#[derive(Drop)]
+pub struct Reader<'a> {
+    rest: &'a [u8],
 }
 
-pub fn word(b: &[u8]) -> i16
-    requires { length b.now ≡ 2 }
-    ensures { result ≡ signed16 (unsigned (get_or b.now 0 0) (get_or b.now 1 0)) }
-{
-    coding::word(b[0], b[1])
+impl<'a> Model for Reader<'a> {
+    ghost Value = { List ℕ };
+
+    ghost view = { λ r. r.rest.now };
 }
 
-// A number of its low and its high sixteen bits.
-fn lifted(low: u16, high: i16) -> i32
-    ensures { result ≡ high *ℤ pos 65536 +ℤ pos low }
-{
-    (high as i32) * 65536 + (low as i32)
-}
+impl<'a> Reader<'a> {
+    pub fn new(bytes: &'a [u8]) -> Self
+        ensures { result ≡ bytes.now }
+    {
+        Reader { rest: bytes }
+    }
 
-// 32 bits, the low 16 first
-pub fn long(b: &[u8]) -> i32
-    requires { length b.now ≡ 4 }
-    ensures { result ≡ long_of b.now }
-{
-    lifted(coding::unsigned(b[0], b[1]), coding::word(b[2], b[3]))
-}
+    pub fn is_empty(&self) -> bool
+        ensures { IsTrue result ↔ self.now ≡ [] }
+    {
+        self.rest.is_empty()
+    }
 
-pub fn ten(b: &[u8]) -> [i16; 10]
-    requires { length b.now ≡ 20 }
-    ensures { result ≡ words b.now }
-{
-    let mut r = [0i16; 10];
-    fill(&mut r, b);
-    r
-}
+    // The next n bytes.
+    pub fn bytes(&mut self, n: usize) -> Option<&'a [u8]>
+        ensures { Reads n (λ b. (b.now ≡ take n self.old) × (length b.now ≡ n)) self.old self.new result }
+    {
+        let (front, rest) = self.rest.split_at_checked(n)?;
+        self.rest = rest;
+        Some(front)
+    }
 
-pub fn row(b: &[u8]) -> [i16; 11]
-    requires { length b.now ≡ 22 }
-    ensures { result ≡ words b.now }
-{
-    let mut r = [0i16; 11];
-    fill(&mut r, b);
-    r
-}
+    // The next N numbers.
+    pub fn numbers<const N: usize>(&mut self) -> Option<[i16; N]>
+        ensures { Reads (2 * N) (λ xs. xs ≡ words (take (2 * N) self.old)) self.old self.new result }
+    {
+        Some(numbers_in(self.bytes(2 * N)?))
+    }
 
-pub fn forty(b: &[u8]) -> [i16; 40]
-    requires { length b.now ≡ 80 }
-    ensures { result ≡ words b.now }
-{
-    let mut r = [0i16; 40];
-    fill(&mut r, b);
-    r
-}
+    pub fn number(&mut self) -> Option<i16>
+        ensures { Reads 2 (λ x. x ≡ signed16 (unsigned (get_or self.old 0 0) (get_or self.old 1 0))) self.old self.new result }
+    {
+        let b = self.bytes(2)?;
+        Some(coding::word(b[0], b[1]))
+    }
 
-pub fn past(b: &[u8]) -> [i16; 154]
-    requires { length b.now ≡ 308 }
-    ensures { result ≡ words b.now }
-{
-    let mut r = [0i16; 154];
-    fill(&mut r, b);
-    r
-}
+    // 16 bits, as they stand.
+    pub fn bits(&mut self) -> Option<u16>
+        ensures { Reads 2 (λ x. x ≡ unsigned (get_or self.old 0 0) (get_or self.old 1 0)) self.old self.new result }
+    {
+        let b = self.bytes(2)?;
+        Some(coding::unsigned(b[0], b[1]))
+    }
 
-pub fn frame(b: &[u8]) -> [i16; 160]
-    requires { length b.now ≡ 320 }
-    ensures { result ≡ words b.now }
-{
-    let mut r = [0i16; 160];
-    fill(&mut r, b);
-    r
-}
+    // 32 bits, the low 16 first.
+    pub fn long(&mut self) -> Option<i32>
+        ensures { Reads 4 (λ x. x ≡ long_of self.old) self.old self.new result }
+    {
+        let b = self.bytes(4)?;
+        Some(i32::from_le_bytes([b[0], b[1], b[2], b[3]]))
+    }
 
-pub fn rows(b: &[u8]) -> Rows
-    requires { length b.now ≡ 88 }
-    ensures { joined (row_list result) ≡ words b.now }
-{
-    Rows {
-        a: row(&b[0..22]),
-        b: row(&b[22..44]),
-        c: row(&b[44..66]),
-        d: row(&b[66..88]),
+    // The four rows of a frame.
+    pub fn rows(&mut self) -> Option<Rows>
+        ensures { Reads 88 (λ rows. row_list rows ≡ cut (11 ∷ 11 ∷ 11 ∷ 11 ∷ []) (words self.old)) self.old self.new result }
+    {
+        Some(Rows {
+            a: self.numbers()?,
+            b: self.numbers()?,
+            c: self.numbers()?,
+            d: self.numbers()?,
+        })
+    }
+
+    // The four places of a frame.
+    pub fn places(&mut self) -> Option<[usize; 4]>
+        ensures { Reads 8 (λ places. places ≡ places_in self.old) self.old self.new result }
+    {
+        Some([
+            self.bits()?.into(),
+            self.bits()?.into(),
+            self.bits()?.into(),
+            self.bits()?.into(),
+        ])
     }
 }

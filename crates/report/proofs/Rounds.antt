@@ -1,11 +1,12 @@
 -- What the rounds of the loop come to, and how much they read, where it is known what the input has left.
-use Rattle.std.proofs.Common.{◌≡◌, ℕ, suc, ◌+◌, ◌≤◌, List, [], ◌++◌, Bool, true, false, not, cond, Option, None, Some, IfSome, take, arith, sym, ap, ◌∙◌, refl, take-append-drop, length-append, length-take}
+use Rattle.std.proofs.Common.{◌≡◌, ℕ, suc, ◌+◌, ◌≤◌, List, [], ◌++◌, Bool, true, false, cond, Option, None, Some, IfSome, take, arith, sym, ap, ◌∙◌, refl, take-append-drop, length-append, length-take}
+use Rattle.std.specs.declared.ops.ControlFlow.TheVariants.{Continue, Break}
 use Rattle.std.proofs.KnownBytes.{Consumes-nil, Consumes-trans}
 use Rattle.state.specs.declared.State.{State}
+use Rattle.sheets.specs.declared.Step.{Step}
 use Rattle.sheets.specs.Sheets.{sheet_bytes}
 use Rattle.sheets.specs.Reading.{TakesFirst}
 use Rattle.shift_report.specs.declared.Totals.{Totals}
-use Rattle.shift_report.specs.declared.TotalsStep.{TotalsStep}
 use Rattle.shift_report.specs.Steps.{totals_step, step_of, loop_totals}
 use Rattle.report.specs.Serving.{ServesSheet, TakesAtMost}
 
@@ -21,39 +22,31 @@ none_over None k sums s now e = tt
 none_over (Some xs) k sums s now e = ap (λ (t : Totals). loop_totals k t s xs) e
 
 -- a round, of the bytes that came
-one_round : (j : ℕ) (sums : Totals) (s : State) (ys zs came : List ℕ) (r : TotalsStep) → TakesFirst (Some ys) (Some zs) sheet_bytes came → totals_step r.totals r.next r.more ≡ step_of sums s came
-    → loop_totals (suc j) sums s ys ≡ cond r.more (loop_totals j r.totals r.next zs) r.totals
+one_round : (j : ℕ) (sums r : Totals) (s next : State) (more : Bool) (ys zs came : List ℕ) → TakesFirst (Some ys) (Some zs) sheet_bytes came → totals_step r next more ≡ step_of sums s came
+    → loop_totals (suc j) sums s ys ≡ cond more (loop_totals j r next zs) r
 unfolding loop_totals
-one_round j sums s ys zs came r t e = rw (← t.0, ← e, ← t.1) refl
-
-is_true : (b : Bool) → not b ≡ false → b ≡ true
-is_true true e = refl
-is_true false e = sym e
-
-is_false : (b : Bool) → not b ≡ true → b ≡ false
-is_false true e = sym e
-is_false false e = refl
+one_round j sums r s next more ys zs came t e = rw (← t.0, ← e, ← t.1) refl
 
 -- a round after which there is a next one
-pub round_more : (input ys zs : Option (List ℕ)) (k : ℕ) (sums : Totals) (s : State) (i j : ℕ) (now : Totals) (t : State) (r : TotalsStep) → ToCome input ys k sums s i now t
-    → ServesSheet ys zs now t r → not r.more ≡ false → i ≡ suc j → ToCome input zs k sums s j r.totals r.next
-round_more None ys zs k sums s i j now t r p q y e = tt
-round_more (Some xs) None zs k sums s i j now t r p q y e = absurd p
-round_more (Some xs) (Some ys) None k sums s i j now t r p q y e = absurd q.1
-round_more (Some xs) (Some ys) (Some zs) k sums s i j now t r p (came, took, step) y e =
-    let on : loop_totals i now t ys ≡ loop_totals j r.totals r.next zs =
-    ap (λ (z : ℕ). loop_totals z now t ys) e ∙ one_round j now t ys zs came r took step ∙ rw (is_true r.more y) refl in
+pub round_more : (input ys zs : Option (List ℕ)) (k : ℕ) (sums : Totals) (s : State) (i j : ℕ) (now : Totals) (t next : State) (r : Step Totals) → ToCome input ys k sums s i now t
+    → ServesSheet ys zs now t r → r.next ≡ Continue next → i ≡ suc j → ToCome input zs k sums s j r.made next
+round_more None ys zs k sums s i j now t next r p q y e = tt
+round_more (Some xs) None zs k sums s i j now t next r p q y e = absurd p
+round_more (Some xs) (Some ys) None k sums s i j now t next r p q y e = absurd q.1
+round_more (Some xs) (Some ys) (Some zs) k sums s i j now t next r p (came, took, step) y e =
+    let told : totals_step r.made next true ≡ step_of now t came = rw y at step in
+    let on : loop_totals i now t ys ≡ loop_totals j r.made next zs = rw e (one_round j now r.made t next true ys zs came took told) in
     sym on ∙ p
 
 -- the last round
-pub round_last : (input ys zs : Option (List ℕ)) (k : ℕ) (sums : Totals) (s : State) (i j : ℕ) (now : Totals) (t : State) (r : TotalsStep) → ToCome input ys k sums s i now t
-    → ServesSheet ys zs now t r → not r.more ≡ true → i ≡ suc j → IfSome input (λ xs. r.totals ≡ loop_totals k sums s xs)
-round_last None ys zs k sums s i j now t r p q y e = tt
-round_last (Some xs) None zs k sums s i j now t r p q y e = absurd p
-round_last (Some xs) (Some ys) None k sums s i j now t r p q y e = absurd q.1
-round_last (Some xs) (Some ys) (Some zs) k sums s i j now t r p (came, took, step) y e =
-    let on : loop_totals i now t ys ≡ r.totals =
-    ap (λ (z : ℕ). loop_totals z now t ys) e ∙ one_round j now t ys zs came r took step ∙ rw (is_false r.more y) refl in
+pub round_last : (input ys zs : Option (List ℕ)) (k : ℕ) (sums : Totals) (s : State) (i j : ℕ) (now : Totals) (t last : State) (r : Step Totals) → ToCome input ys k sums s i now t
+    → ServesSheet ys zs now t r → r.next ≡ Break last → i ≡ suc j → IfSome input (λ xs. r.made ≡ loop_totals k sums s xs)
+round_last None ys zs k sums s i j now t last r p q y e = tt
+round_last (Some xs) None zs k sums s i j now t last r p q y e = absurd p
+round_last (Some xs) (Some ys) None k sums s i j now t last r p q y e = absurd q.1
+round_last (Some xs) (Some ys) (Some zs) k sums s i j now t last r p (came, took, step) y e =
+    let told : totals_step r.made last false ≡ step_of now t came = rw y at step in
+    let on : loop_totals i now t ys ≡ r.made = rw e (one_round j now r.made t last false ys zs came took told) in
     sym on ∙ p
 
 -- no round is left

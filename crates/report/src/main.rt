@@ -1,8 +1,7 @@
 // The shift report: reads a handover record and then frame sheets from standard input, and writes one line of totals.
 #![tactic(auto)]
 
-ghost use Rattle.std.specs.Prelude.{◌≡◌, ◌+◌, ◌*◌, ◌≤◌, [], length, take, IfOk, IfSome, OnOk};
-ghost use Rattle.lines.specs.Put.{line_room, Within};
+ghost use Rattle.std.specs.Prelude.{◌≡◌, ◌+◌, ◌*◌, ◌≤◌, [], IfOk, IfSome, OnOk};
 ghost use Rattle.sheets.specs.Sheets.{record_bytes, sheet_bytes};
 ghost use Rattle.shift_report.specs.Totals.{totals_of};
 ghost use Rattle.shift_report.specs.Report.{sheet_limit, report_output};
@@ -10,24 +9,23 @@ ghost use Rattle.shift_report.specs.Steps.{sheets_counted, Bounded, loop_totals}
 ghost use Rattle.totals.specs.Inner.{OneMore};
 ghost use Rattle.report.specs.Serving.{ServesSheet, TakesAtMost};
 
-use lines::LINE_ROOM;
-use sheets::SHEET_BYTES;
-use shift_report::{Totals, TotalsStep};
+use lines::Line;
+use sheets::Step;
+use shift_report::Totals;
 use state::State;
 use std::io;
 use std::io::Read;
+use std::ops::ControlFlow;
 use totals::SHEET_LIMIT;
 
 // Reads what comes of a sheet, and takes the step on it.
-fn serve_sheet<R: Read>(input: &mut R, totals: Totals, state: State) -> io::Result<TotalsStep>
+fn serve_sheet<R: Read>(input: &mut R, totals: Totals, state: State) -> io::Result<Step<Totals>>
     requires { OneMore totals }
     ensures sheet { IfOk result (λ s. ServesSheet (R.remaining input.old) (R.remaining input.new) totals state s) }
-    ensures bounded { IfOk result (λ s. Bounded s.totals) }
-    ensures counted { IfOk result (λ s. sheets_counted s.totals ≤ sheets_counted totals + 1) }
+    ensures bounded { IfOk result (λ s. Bounded s.made) }
+    ensures counted { IfOk result (λ s. sheets_counted s.made ≤ sheets_counted totals + 1) }
 {
-    let mut bytes = [0u8; SHEET_BYTES];
-    let n = sheets::read_sheet(input, &mut bytes)?;
-    Ok(totals::step(totals, &bytes[..n], state))
+    sheets::on_sheet(input, |bytes| totals::step(totals, bytes, state))
 }
 
 // What comes after so many sheets is not read.
@@ -37,36 +35,30 @@ fn run<R: Read>(input: &mut R, first: State) -> io::Result<Totals>
 {
     let mut totals = totals::zeros();
     let mut state = first;
-    let mut number = 0;
-    while number < SHEET_LIMIT {
-        number += 1;
+    for _ in 0..SHEET_LIMIT {
         let step = serve_sheet(input, totals, state)?;
-        totals = step.totals;
-        state = step.next;
-        if !step.more {
-            break;
+        totals = step.made;
+        match step.next {
+            ControlFlow::Continue(next) => state = next,
+            ControlFlow::Break(_) => break,
         }
     }
     Ok(totals)
 }
 
-// Reads all, and puts the report into the lent line.
-fn read_report<R: Read>(input: &mut R, line: &mut [u8]) -> io::Result<usize>
-    requires { length line.old ≡ line_room }
-    ensures within { IfOk result (λ n. Within n line.new) }
-    ensures line { IfOk result (λ n. IfSome (R.remaining input.old) (λ xs. take n line.new ≡ report_output xs)) }
+// Reads all, and makes the report's line.
+fn read_report<R: Read>(input: &mut R) -> io::Result<Line>
+    ensures line { IfOk result (λ line. IfSome (R.remaining input.old) (λ xs. line ≡ report_output xs)) }
     ensures limit { OnOk result (TakesAtMost (R.remaining input.old) (R.remaining input.new) (record_bytes + sheet_limit * sheet_bytes)) }
 {
-    let opening = sheets::read_record(input, line)?;
-    if opening.more {
-        let totals = run(input, opening.next)?;
-        return Ok(totals::report_line(line, totals));
+    let opening = sheets::read_record(input)?;
+    if let ControlFlow::Continue(state) = opening.next {
+        return Ok(totals::report_line(run(input, state)?));
     }
-    Ok(opening.count)
+    Ok(opening.made)
 }
 
 fn main(rt: HostRuntime) -> io::Result<()> {
-    let mut line = [0u8; LINE_ROOM];
-    let count = read_report(&mut rt.stdin(), &mut line)?;
-    rt.write_all(&line[..count])
+    let line = read_report(&mut rt.stdin())?;
+    rt.write_all(line.as_bytes())
 }

@@ -1,5 +1,7 @@
 -- What a program of the bench reads: a record, then sheets one by one. Document 01, "The bench program's lines".
 use Rattle.std.specs.Prelude.{Bool, true, false, cond, List, [], ℕ, ◌+◌, ◌/◌, pos, length, replicate}
+use Rattle.std.specs.declared.ops.ControlFlow.{ControlFlow}
+use Rattle.std.specs.declared.ops.ControlFlow.TheVariants.{Continue, Break}
 use Rattle.lists.specs.Parts.{cut}
 use Rattle.state.specs.declared.State.{State}
 use Rattle.outcome.specs.Outcome.{number_of, is_accepted}
@@ -7,6 +9,7 @@ use Rattle.coding.specs.Bytes.{words}
 use Rattle.record.specs.Record.{read_call}
 use Rattle.mr74.specs.Frame.{CallResult, frame_call}
 use Rattle.lines.specs.Lines.{state_line}
+use Rattle.sheets.specs.declared.Step.{Step}
 
 -- the record's bytes
 abbrev pub record_bytes : ℕ
@@ -33,7 +36,15 @@ pub record StepResult : Type 0 where
 abbrev pub step_result : List ℕ → State → Bool → StepResult
 step_result line next more = record { line = line; next = next; more = more }
 
--- the first step, on the record as far as it came: a refused one is told, and nothing more
+-- ---- what a step of the code tells: what it made, the state for the next step, and whether there is one
+abbrev pub told_by : {R : Type 0} → (State → Bool → R) → ControlFlow State State → R
+told_by make (Continue next) = make next true
+told_by make (Break last) = make last false
+
+abbrev pub told : {A R : Type 0} → (A → State → Bool → R) → Step A → R
+told make step = told_by (make step.made) step.next
+
+-- ---- the first step, on the record as far as it came: a refused one is told, and nothing more
 unfoldable pub opening_step : List ℕ → StepResult
 opening_step bytes =
     let a = (read_call bytes).answer in

@@ -1,29 +1,31 @@
 // What a program of the bench reads: a record, then sheets one by one.
 #![tactic(auto)]
 
-ghost use Rattle.std.specs.Prelude.{◌≡◌, ℕ, List, length, take, IfOk, OnErr};
+ghost use Rattle.std.specs.Prelude.{◌≡◌, ℕ, List, length, take, IfOk};
+ghost use Rattle.std.specs.Fn.{FnOnceReturnsAt};
 ghost use Rattle.std.specs.Io.{ReadsAtMost};
 ghost use Rattle.mr74.specs.Frame.{call_result};
-ghost use Rattle.lines.specs.Put.{line_room, Within};
-ghost use Rattle.sheets.specs.Sheets.{record_bytes, sheet_bytes, sheet_call, step_result, opening_step};
+ghost use Rattle.sheets.specs.Sheets.{record_bytes, sheet_bytes, sheet_call, step_result, told, opening_step};
 ghost use Rattle.sheets.specs.Reading.{TakesFirst};
 
+use lines::Line;
 use mr74::{FrameAnswer, SAMPLES, SHEET};
+use record::Answer;
 use state::State;
 use std::io;
 use std::io::Read;
+use std::ops::ControlFlow;
 
 // The bytes of the record that the input begins with, and of each sheet.
 pub const RECORD_BYTES: usize = 402;
 
 pub const SHEET_BYTES: usize = 2 * SHEET;
 
-// The length of what a step prints, the state for the next sheet, and whether there is a next step.
-#[derive(Clone, Copy)]
-pub struct Step {
-    pub count: usize,
-    pub next: State,
-    pub more: bool,
+// What a step of a program makes, and whether there is a next one: it goes on with a state, or breaks off with the last.
+#[derive(Drop)]
+pub struct Step<T> {
+    pub made: T,
+    pub next: ControlFlow<State, State>,
 }
 
 // ---- reading
@@ -44,50 +46,41 @@ pub fn read_full<R: Read>(input: &mut R, bytes: &mut [u8]) -> io::Result<usize>
 }
 
 // ---- the record
-// The first step, on the record as far as it came.
-pub fn open_call(line: &mut [u8], bytes: &[u8]) -> Step
-    requires { length line.old ≡ line_room }
-    ensures step { step_result (take result.count line.new) result.next result.more ≡ opening_step bytes.now }
-    ensures within { Within result.count line.new }
+// The first step, on the record as far as it came: a refused one is told, and nothing more.
+pub fn open_call(bytes: &[u8]) -> Step<Line>
+    ensures { told step_result result ≡ opening_step bytes.now }
 {
-    let answer = record::answer_of(bytes);
-    let outcome = answer.outcome;
-    let next = answer.state;
-    if outcome.accepted() {
-        return Step {
-            count: 0,
-            next,
-            more: true,
-        };
-    }
-    let count = lines::state_line(line, outcome.number());
-    Step {
-        count,
-        next,
-        more: false,
+    let Answer { outcome, state } = record::answer_of(bytes);
+    match outcome {
+        Ok(()) => Step {
+            made: Line::new(),
+            next: ControlFlow::Continue(state),
+        },
+        Err(refusal) => Step {
+            made: lines::state_line(refusal.number()),
+            next: ControlFlow::Break(state),
+        },
     }
 }
 
 // Reads the record from the input, and takes the first step on what came of it.
-pub fn read_record<R: Read>(input: &mut R, line: &mut [u8]) -> io::Result<Step>
-    requires { length line.old ≡ line_room }
-    ensures within { IfOk result (λ s. Within s.count line.new) }
-    ensures step { IfOk result (λ s. (came : List ℕ) × TakesFirst (R.remaining input.old) (R.remaining input.new) record_bytes came
-        × (step_result (take s.count line.new) s.next s.more ≡ opening_step came)) }
-    ensures err { OnErr result (line.new ≡ line.old) }
+pub fn read_record<R: Read>(input: &mut R) -> io::Result<Step<Line>>
+    ensures { IfOk result (λ s. (came : List ℕ) × TakesFirst (R.remaining input.old) (R.remaining input.new) record_bytes came × (told step_result s ≡ opening_step came)) }
 {
     let mut bytes = [0u8; RECORD_BYTES];
     let n = read_full(input, &mut bytes)?;
-    Ok(open_call(line, &bytes[..n]))
+    Ok(open_call(&bytes[..n]))
 }
 
 // ---- a sheet
-// Reads a sheet from the input, as far as it comes.
-pub fn read_sheet<R: Read>(input: &mut R, bytes: &mut [u8]) -> io::Result<usize>
-    ensures bound { ReadsAtMost result bytes.new }
-    ensures first { IfOk result (λ n. TakesFirst (R.remaining input.old) (R.remaining input.new) (length bytes.new) (take n bytes.new)) }
+// Reads a sheet from the input, as far as it comes, and takes a step on what came.
+pub fn on_sheet<R: Read, T, F: FnOnce(&[u8]) -> T>(input: &mut R, step: F) -> io::Result<T>
+    requires { F.IsAlwaysCallable step }
+    ensures { IfOk result (λ made. (came : List ℕ) × TakesFirst (R.remaining input.old) (R.remaining input.new) sheet_bytes came × FnOnceReturnsAt F.FnOnce step came made) }
 {
-    read_full(input, bytes)
+    let mut bytes = [0u8; SHEET_BYTES];
+    let n = read_full(input, &mut bytes)?;
+    Ok(step(&bytes[..n]))
 }
 
 // What a sheet's frame call gives.
@@ -98,6 +91,7 @@ pub struct Decoded {
 }
 
 // The frame call of a sheet's bytes.
+#[tactic(auto, using(crate::proofs::Opening::sheet_called))]
 pub fn decode_bytes(bytes: &[u8], state: State) -> Decoded
     requires { length bytes.now ≡ sheet_bytes }
     ensures { call_result result.answer result.samples ≡ sheet_call bytes.now state }
@@ -158,7 +152,7 @@ mod tests {
     fn leaves_what_follows(rt: HostRuntime) -> Result<(), Fail> {
         let mut input: &[u8] = &[1, 2, 3, 4, 5];
         let mut bytes = [0u8; 3];
-        assert_eq!(rt; read_sheet(&mut input, &mut bytes)?, 3);
+        assert_eq!(rt; read_full(&mut input, &mut bytes)?, 3);
         assert_eq!(rt; bytes, [1, 2, 3]);
         assert_eq!(rt; input.len(), 2);
         Ok(())
@@ -172,7 +166,7 @@ mod tests {
             fails: true,
         };
         let mut bytes = [0u8; SHEET_BYTES];
-        let read = read_sheet(&mut input, &mut bytes);
+        let read = read_full(&mut input, &mut bytes);
         assert!(rt; read.is_err());
     }
 }

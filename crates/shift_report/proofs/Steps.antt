@@ -20,10 +20,9 @@ use Rattle.sheets.specs.Sheets.{StepResult, step_result, opening_step}
 use Rattle.sheets.proofs.Opening.{opening_accepted, opening_refused}
 use Rattle.sheets.proofs.Pieces.{sheets_none, sheets_more}
 use Rattle.shift_report.specs.declared.Totals.{Totals}
-use Rattle.shift_report.specs.declared.TotalsStep.{TotalsStep}
 use Rattle.shift_report.specs.Totals.{totals_of}
 use Rattle.shift_report.specs.Report.{call_of, whole_sheets, sheet_traces, report_line, report_output}
-use Rattle.shift_report.specs.Steps.{plus, totals_step, step_of, loop_totals, program_report, StepTotals, StepsReport}
+use Rattle.shift_report.specs.Steps.{plus, TotalsStep, totals_step, step_of, loop_totals, program_report, StepTotals, StepsReport}
 use Rattle.shift_report.proofs.Plus.{totals_append, zeros_plus, plus_zeros, plus_assoc}
 
 -- ---- a step: a whole sheet, and anything else

@@ -7,7 +7,6 @@ use Rattle.mr74.specs.Frame.{Trace}
 use Rattle.calls.specs.Calls.{Call, trace_of, run_calls}
 use Rattle.sheets.specs.Sheets.{record_bytes, sheet_bytes, opening_step}
 use Rattle.shift_report.specs.declared.Totals.{Totals}
-use Rattle.shift_report.specs.declared.TotalsStep.{TotalsStep}
 use Rattle.shift_report.specs.Totals.{totals_of}
 use Rattle.shift_report.specs.Report.{sheet_limit, call_of, report_line, report_output}
 
@@ -22,7 +21,12 @@ plus a b =
       peaks = a.peaks +ℤ b.peaks;
     }
 
--- ---- the program's steps
+-- ---- the program's steps: the sums for the next sheet, the state for it, and whether there is a next step
+pub record TotalsStep : Type 0 where
+  pub totals : Totals
+  pub next : State
+  pub more : Bool
+
 abbrev pub totals_step : Totals → State → Bool → TotalsStep
 totals_step totals next more = record { totals = totals; next = next; more = more }
 

@@ -2,7 +2,9 @@
 #![tactic(auto)]
 
 ghost use Rattle.std.specs.Prelude.{◌≡◌, pos, ◌≤ℤ◌};
-ghost use Rattle.spectral.specs.Lsp.{cosine, between, lsp_of, lsps_of, Frequencies};
+ghost use Rattle.spectral.specs.Lsp.{between, lsp_of, lsps_of, Frequencies};
+
+use std::array;
 
 // Q15.
 const COSINE: [i16; 65] = [
@@ -23,27 +25,15 @@ fn between(low: i16, next: i16, offset: i16) -> i16
 }
 
 // One frequency. The caller tested its range.
-fn frequency_to_cosine(frequency: i16, table: &[i16; 65]) -> i16
-    requires { (pos 0 ≤ℤ frequency) × (frequency ≤ℤ pos 16384) × (table.now ≡ cosine) }
+fn frequency_to_cosine(frequency: i16) -> i16
+    requires { (pos 0 ≤ℤ frequency) × (frequency ≤ℤ pos 16384) }
     ensures { result ≡ lsp_of frequency }
 {
     let f = frequency as usize;
     if 16383 < f {
         return -32768;
     }
-    between(table[f / 256], table[f / 256 + 1], (f % 256) as i16)
-}
-
-// Ten frequencies, by the table.
-fn cosines_of(frequencies: [i16; 10], table: &[i16; 65]) -> [i16; 10]
-    requires { Frequencies frequencies × (table.now ≡ cosine) }
-    ensures { result ≡ lsps_of frequencies }
-{
-    let mut cosines = frequencies;
-    for i in 0..10 {
-        cosines[i] = frequency_to_cosine(frequencies[i], table);
-    }
-    cosines
+    between(COSINE[f / 256], COSINE[f / 256 + 1], (f % 256) as i16)
 }
 
 // The LSPs (Q15) of ten LSFs (Q15). That each LSF lies in 0..=16384 is shown by the test of the sheet, refusal 2.
@@ -51,6 +41,5 @@ pub fn lsf_to_lsp(frequencies: [i16; 10]) -> [i16; 10]
     requires { Frequencies frequencies }
     ensures { result ≡ lsps_of frequencies }
 {
-    let table = COSINE;
-    cosines_of(frequencies, &table)
+    array::from_fn(|i| frequency_to_cosine(frequencies[i]))
 }

@@ -4,7 +4,7 @@ use mathlib.Core.Bool.{true}
 use lib.IntN.{pos}
 use lib.Signed.{◌≤ℤ◌, lt_z}
 use Rattle.basicop.proofs.Tests.{less_no, no_less, or_left, or_right}
-use Rattle.outcome.specs.declared.Outcome.TheVariants.{Accepted}
+use Rattle.std.specs.Prelude.{Ok}
 use Rattle.outcome.specs.Outcome.{is_accepted}
 use Rattle.outcome.specs.Checks.{first_met}
 use Rattle.outcome.proofs.Checks.{Placed, none_placed, none_met}
@@ -18,7 +18,7 @@ pub record InRange (s : State) : Type 0 where
 
 pub in_range : (s : State) → is_accepted (first_met (state_checks s)) ≡ true → InRange s
 in_range s h =
-    let u = none_met (state_checks s) tt h in
+    let u = none_met (state_checks s) h in
     let sharpening = s.core.sharpening.0 in
     record {
       from = less_no (or_left (lt_z sharpening (pos 0)) (lt_z (pos 13017) sharpening) u.0);
@@ -27,7 +27,7 @@ in_range s h =
     }
 
 -- and such a state is accepted
-pub in_range_accepted : (s : State) → InRange s → state_outcome s ≡ Accepted
+pub in_range_accepted : (s : State) → InRange s → state_outcome s ≡ Ok tt
 unfolding state_outcome first_met
 in_range_accepted s k = rw (no_less s.core.sharpening.0 (pos 0) k.from, no_less (pos 13017) s.core.sharpening.0 k.to, no_less s.post.gain.previous_gain (pos 0) k.gain)
 

@@ -4,8 +4,8 @@ use Rattle.std.specs.Int.Signed.{lt_z}
 use Rattle.std.specs.Int.{w16}
 use Rattle.std.proofs.Common.{SFits}
 use Rattle.basicop.specs.Words.{Words}
-use Rattle.outcome.specs.declared.Outcome.{Outcome}
-use Rattle.outcome.specs.declared.Outcome.TheVariants.{Sharpening, SmoothedGain}
+use Rattle.outcome.specs.declared.Refusal.TheVariants.{Sharpening, SmoothedGain}
+use Rattle.outcome.specs.Outcome.{Outcome}
 use Rattle.outcome.specs.Checks.{Check, check, first_met}
 use Rattle.state.specs.declared.State.{State}
 

@@ -6,7 +6,7 @@ ghost use Rattle.outcome.specs.Checks.{first_met};
 ghost use Rattle.state.specs.State.{state_checks};
 
 use decoder::Core;
-use outcome::Outcome;
+use outcome::{Outcome, Refusal};
 use postfilter::Postfilter;
 
 // In the record's order: the core's numbers (fields 0 to 174) and the postfilter's (175 to 196).
@@ -30,25 +30,17 @@ pub const POST_NUMBERS: usize = HISTORY + HISTORY + 1 + 1;
 pub const NUMBERS: usize = CORE_NUMBERS + POST_NUMBERS;
 
 // 16 and 17, which frame call, reader and writer share.
+#[tactic(auto, unfolding(outcome::specs::Checks::first_met))]
 pub fn check_state(state: State) -> Outcome
     ensures { result ≡ first_met (state_checks state) }
 {
-    let core = state.core;
-    let sharpening = core.sharpening;
-    let sharp = sharpening.0;
-    if sharp < 0 {
-        return Outcome::Sharpening;
+    let outside = !(0..=13017).contains(&state.core.sharpening.0);
+    if outside {
+        return Err(Refusal::Sharpening);
     }
-    let above = 13017 < sharp;
-    if above {
-        return Outcome::Sharpening;
-    }
-    let post = state.post;
-    let gain = post.gain;
-    let smooth = gain.previous_gain;
-    let below = smooth < 0;
+    let below = state.post.gain.previous_gain < 0;
     if below {
-        return Outcome::SmoothedGain;
+        return Err(Refusal::SmoothedGain);
     }
-    Outcome::Accepted
+    Ok(())
 }

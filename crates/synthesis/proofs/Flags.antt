@@ -24,6 +24,10 @@ pub or_same : (b b' c c' : Bool) → b ≡ b' → (b' ≡ false → c ≡ c') �
 or_same b true c c' e f = rw e
 or_same b false c c' e f = rw e (f refl)
 
+pub true_by : (b : Bool) → (b ≡ false → ⊥) → b ≡ true
+true_by true h = refl
+true_by false h = absurd (h refl)
+
 -- ---- a clamp changes what lies outside, and nothing else
 pub inside_clamp : (z : ℤ) → outside z ≡ false → clamp w32 z ≡ z
 unfolding outside

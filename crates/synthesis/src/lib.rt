@@ -3,12 +3,12 @@
 
 mod buffer;
 mod clamped;
-mod weighing;
+mod row;
 mod whole;
 
-pub use buffer::newest;
+pub use buffer::{newest, window};
 pub use clamped::{filter, first_samples};
-pub use weighing::light;
+pub use row::Row;
 pub use whole::preview;
 
 // What the first pass gives: the samples before `place`, the first at which a step leaves 32 bits, and zeros from there on;

@@ -1,144 +1,102 @@
-// The first pass, in whole numbers: up to the sum they are even, and are kept at half their size.
-ghost use Rattle.std.specs.Prelude.{◌≡◌, true, false, ◌++◌, ◌*◌, ◌-◌, ◌≤◌, ◌<◌, pos, nat_abs, ◌*ℤ◌, length, take, replicate};
-ghost use Rattle.synthesis.specs.Recursion.{outside, recursion};
-ghost use Rattle.synthesis.specs.Synthesis.{sample, overflowed_at, previewed};
-ghost use Rattle.synthesis.specs.Inner.{weight, Halved, Ended};
+// The first pass, in whole numbers. It ends at the first sample with a number that leaves 32 bits.
+ghost use Rattle.std.specs.Prelude.{◌≡◌, true, false, ◌*◌, ◌≤◌, pos, nat_abs, ◌+ℤ◌, ◌*ℤ◌};
+ghost use Rattle.std.specs.Option.{SomeIff};
+ghost use Rattle.std.specs.Int.RustNames.{FitsSigned};
+ghost use Rattle.std.specs.Int.{w32};
+ghost use Rattle.synthesis.specs.Recursion.{some_outside};
+ghost use Rattle.synthesis.specs.Synthesis.{unheld, sample, previewed};
+ghost use Rattle.synthesis.specs.Whole.{sum, sums};
+ghost use Rattle.synthesis.specs.Inner.{IsSum};
 
-use super::Output;
-use super::buffer::{after_history, roomed};
-use super::weighing::light;
+use super::buffer::window;
+use super::{Output, Row};
+use copy::{padded, stretch};
 
-// z lies outside the range of an i32
-fn outside(z: i64) -> bool
-    ensures { result ≡ outside z }
-{
-    (z < -2147483648) | (2147483647 < z)
-}
-
-// 2 z does
-fn twice_outside(z: i64) -> bool
-    ensures { result ≡ outside (pos 2 *ℤ z) }
-{
-    (z < -1073741824) | (1073741823 < z)
-}
-
-// Whether the sum or a number on the way to it lies outside, and half the sum where none does.
-#[derive(Drop)]
-struct Sum {
-    half: i64,
-    out: bool,
-}
-
-// A sample, and whether one of its numbers lies outside.
-#[derive(Drop)]
-struct Sample {
-    y: i16,
-    out: bool,
-}
-
-fn wide_product(a: i16, y: i16) -> i64
-    ensures { (result ≡ a *ℤ y) × (nat_abs result ≤ 1073741824) }
-{
-    (a as i64) * (y as i64)
-}
-
-// The sum for the sample at place `at` of the buffer, each number tested.
-fn tested(a: &[i16; 11], x: i16, buf: &[i16; 50], at: usize) -> Sum
-    requires { (length buf.now ≡ 50) × ((10 ≤ at) × (at < 50)) }
-    ensures { Halved a.now x (take at buf.now) 10 result.half result.out }
-{
-    let mut s = wide_product(a[0], x);
-    let out = twice_outside(s);
-    for k in 1..11 {
-        let p = wide_product(a[k], buf[at - k]);
-        s = s - p;
-        if twice_outside(p) | twice_outside(s) {
-            return Sum { half: 0, out: true };
-        }
-    }
-    Sum { half: s, out }
-}
-
+// A product, before it is doubled.
 fn product(a: i16, y: i16) -> i32
     ensures { (result ≡ a *ℤ y) × (nat_abs result ≤ nat_abs a * 32768) }
 {
-    (a as i32) * (y as i32)
+    i32::from(a) * i32::from(y)
 }
 
-// The same of a row whose weight, |a0| + .. + |a10|, is below 32768: no number up to the sum can lie outside, and none is tested.
-pub fn untested(a: &[i16; 11], x: i16, buf: &[i16; 50], at: usize) -> i32
-    requires { (length buf.now ≡ 50) × ((10 ≤ at) × ((at < 50) × (weight a.now < 32768))) }
-    ensures { Halved a.now x (take at buf.now) 10 result false }
+// Twice the product.
+fn doubled(a: i16, y: i16) -> Option<i32>
+    ensures { SomeIff result (FitsSigned w32 (pos 2 *ℤ (a *ℤ y))) (pos 2 *ℤ (a *ℤ y)) }
 {
-    let mut s = product(a[0], x);
-    for k in 1..11 {
-        s = s - product(a[k], buf[at - k]);
-    }
-    s
+    product(a, y).checked_mul(2)
 }
 
-// The one or the other.
-fn summed(a: &[i16; 11], x: i16, buf: &[i16; 50], at: usize, plain: bool) -> Sum
-    requires { (length buf.now ≡ 50) × ((10 ≤ at) × ((at < 50) × (plain ≡ true → weight a.now < 32768))) }
-    ensures { Halved a.now x (take at buf.now) 10 result.half result.out }
+// The last number of a sample, of its sum.
+fn last(sum: i32) -> Option<i32>
+    ensures { SomeIff result (FitsSigned w32 (sum *ℤ pos 8) × FitsSigned w32 (sum *ℤ pos 8 +ℤ pos 32768)) (sum *ℤ pos 8 +ℤ pos 32768) }
 {
-    if plain {
-        return Sum {
-            half: untested(a, x, buf, at) as i64,
-            out: false,
-        };
-    }
-    tested(a, x, buf, at)
+    sum.checked_mul(8)?.checked_add(32768)
 }
 
-// Times 8, plus 32768, >> 16.
-fn ended(half: i64, out: bool) -> Sample
-    requires { nat_abs half ≤ 1073741824 }
-    ensures { Ended (pos 2 *ℤ half) out result.y result.out }
-{
-    let e = half * 16;
-    let t = e + 32768;
-    if out | (outside(e) | outside(t)) {
-        return Sample { y: 0, out: true };
-    }
-    Sample {
-        y: (t >> 16) as i16,
-        out: false,
-    }
-}
-
-// The buffer with the samples before `place`.
-#[derive(Drop)]
-struct Pass {
-    buf: [i16; 50],
-    place: usize,
-}
-
-// Sample by sample, up to the first with a number outside.
-fn first_pass(coefficients: [i16; 11], excitation: [i16; 40], history: [i16; 10]) -> Pass
-    ensures { (result.place ≡ overflowed_at 10 coefficients excitation history) × (result.buf ≡ recursion (sample 10 coefficients) (take result.place excitation) history ++ replicate (40 - result.place) (pos 0)) }
-{
-    let plain = light(&coefficients);
-    let mut buf = roomed(history);
-    for n in 0..40 {
-        let s = summed(&coefficients, excitation[n], &buf, n + 10, plain);
-        let e = ended(s.half, s.out);
-        if e.out {
-            return Pass { buf, place: n };
+impl Row {
+    // The sum for a sample, from its number of the excitation and the ten samples before it, each number on the way tested.
+    fn tested(&self, x: i16, y: &[i16; 10]) -> Option<i32>
+        ensures { SomeIff result (some_outside (sums self.now.coefficients x y.now 10) ≡ false) (sum self.now.coefficients x y.now 10) }
+    {
+        let a = &self.coefficients;
+        let mut s = doubled(a[0], x)?;
+        for (c, v) in a[1..].iter().zip(y.iter().rev()) {
+            let p = doubled(*c, *v)?;
+            s = s.checked_sub(p)?;
         }
-        let y = e.y;
-        buf[n + 10] = y;
+        Some(s)
     }
-    Pass { buf, place: 40 }
+
+    // The same of a light row: no number up to the sum can lie outside, and none is tested. The numbers are kept at half their size.
+    pub(crate) fn untested(&self, x: i16, y: &[i16; 10]) -> i32
+        requires { self.now.light ≡ true }
+        ensures { IsSum self.now.coefficients x y.now 10 result }
+    {
+        let a = &self.coefficients;
+        let mut half = product(a[0], x);
+        for (c, v) in a[1..].iter().zip(y.iter().rev()) {
+            half -= product(*c, *v);
+        }
+        half * 2
+    }
+
+    // The one or the other.
+    fn sum(&self, x: i16, y: &[i16; 10]) -> Option<i32>
+        ensures { SomeIff result (some_outside (sums self.now.coefficients x y.now 10) ≡ false) (sum self.now.coefficients x y.now 10) }
+    {
+        if self.light {
+            return Some(self.untested(x, y));
+        }
+        self.tested(x, y)
+    }
+
+    // The sample, where none of its numbers lies outside.
+    fn sample(&self, x: i16, y: &[i16; 10]) -> Option<i16>
+        ensures { SomeIff result (some_outside (unheld 10 self.now.coefficients x y.now) ≡ false) (sample 10 self.now.coefficients x y.now) }
+    {
+        let s = self.sum(x, y)?;
+        let e = last(s)?;
+        Some((e >> 16) as i16)
+    }
 }
 
-// The first pass: the place at which a step first leaves 32 bits, and the samples before it.
+// The first pass, sample by sample: the place at which a step first leaves 32 bits, and the samples before it.
 pub fn preview(coefficients: [i16; 11], excitation: [i16; 40], history: [i16; 10]) -> Output
     ensures { result ≡ previewed coefficients excitation history }
 {
-    let p = first_pass(coefficients, excitation, history);
-    let buf = p.buf;
-    let place = p.place;
-    let samples = after_history(buf);
-    Output { samples, place }
+    let row = Row::new(coefficients);
+    let mut buf: [i16; 50] = padded(&history);
+    for (n, x) in excitation.iter().enumerate() {
+        let Some(y) = row.sample(*x, window(&buf, n)) else {
+            return Output {
+                samples: stretch(&buf, 10),
+                place: n,
+            };
+        };
+        buf[n + 10] = y;
+    }
+    Output {
+        samples: stretch(&buf, 10),
+        place: 40,
+    }
 }

@@ -1,8 +1,8 @@
 -- What `add` and `step` give: the sums with one call more. Assumes nothing.
 use Prim.Native.Nat.{ℕ, ◌+◌, ◌*◌, ◌≤◌}
 use mathlib.Core.Path.{◌≡◌, refl, sym, ap, ◌∙◌, subst}
-use mathlib.Core.Bool.{Bool, true, false}
-use mathlib.Core.List.{List, [], ◌∷◌}
+use mathlib.Core.Bool.{Bool, true, false, cond}
+use mathlib.Core.List.{List, [], ◌∷◌, map}
 use native.Mathlib.Nat.{add-zero}
 use native.Mathlib.Omega.{arith}
 use borrow.Author.Tests.{eqb-true, eqb-false}
@@ -11,46 +11,66 @@ use lib.IntN.{ℤ, pos, nat_abs, ◌+ℤ◌, +ℤ_idr}
 use lib.ListN.{length}
 use mir.Syntax.{w32}
 use mir.Val.{SFits}
+use Rattle.std.specs.List.{count_by}
+use Rattle.std.proofs.lemmas.List.Sums.{sum_by-cons}
+use Rattle.lists.specs.Lists.{one_if, count}
+use Rattle.decoder.specs.Subframe.{flag_of}
 use Rattle.basicop.specs.Words.{Words}
 use Rattle.basicop.proofs.Ints.{sfits_by}
 use Rattle.basicop.proofs.Range.{nat_abs_is}
 use Rattle.state.specs.declared.State.{State}
-use Rattle.outcome.specs.declared.Outcome.{Outcome}
-use Rattle.outcome.specs.Outcome.{is_accepted}
+use Rattle.std.specs.Prelude.{Ok, Err}
+use Rattle.outcome.specs.declared.Refusal.{Refusal}
+use Rattle.outcome.specs.Outcome.{Outcome, is_accepted}
+use Rattle.outcome.proofs.Variants.{never_accepted}
 use Rattle.mr74.specs.declared.FrameAnswer.{FrameAnswer}
 use Rattle.mr74.specs.Frame.{CallResult, call_result, result_of, frame_call}
 use Rattle.calls.specs.Calls.{trace_of}
 use Rattle.lines.specs.Lines.{peak_of}
 use Rattle.sheets.specs.Sheets.{sheet_call}
 use Rattle.shift_report.specs.declared.Totals.{Totals}
-use Rattle.shift_report.specs.declared.TotalsStep.{TotalsStep}
-use Rattle.shift_report.specs.Totals.{retried_in, square_sum, totals_of}
+use Rattle.shift_report.specs.Totals.{retried_in, square_sum, accepted_count, refused_count, retried_total, square_total, peak_total, totals_of}
 use Rattle.shift_report.specs.Report.{call_of}
-use Rattle.shift_report.specs.Steps.{plus, sheets_counted, totals_step, step_of, Bounded}
+use Rattle.shift_report.specs.Steps.{plus, sheets_counted, TotalsStep, totals_step, step_of, Bounded}
 use Rattle.shift_report.proofs.Plus.{made, totals_same, counts, plus_count}
 use Rattle.shift_report.proofs.Shares.{share_by, one_share}
 use Rattle.shift_report.proofs.Bounds.{share_bounded, bounded_plus}
 use Rattle.shift_report.proofs.Steps.{added_whole, added_none}
 use Rattle.totals.specs.Inner.{Adds}
 
+-- ---- the sums of no call, of fields that are each 0
+pub none_added : (t : Totals) → t.accepted ≡ 0 → t.refused ≡ 0 → t.retried ≡ 0 → t.squares ≡ 0 → t.peaks ≡ pos 0 → t ≡ totals_of []
+unfolding accepted_count refused_count retried_total square_total peak_total
+none_added t = totals_same t (totals_of [])
+
+-- ---- the flags that are set
+counted_set : (flags : List Bool) → count_by (λ (flag : Bool). flag) flags ≡ count flags
+unfolding one_if
+counted_set [] = refl
+counted_set (flag ∷ flags) = sum_by-cons (λ (flag : Bool). cond flag 1 0) flag flags ∙ ap (λ (n : ℕ). cond flag 1 0 + n) (counted_set flags)
+
+pub retried_counted : (places : List ℕ) (flags : List Bool) → flags ≡ map flag_of places → count_by (λ (flag : Bool). flag) flags ≡ retried_in places
+unfolding retried_in
+retried_counted places flags e = counted_set flags ∙ ap count e
+
 -- ---- the sums, by the call's outcome
 module _ (sums : Totals) (o : Outcome) (places : List ℕ) (xs : List ℤ) where
   pub adds_by : (r : Totals) → r ≡ plus sums (share_by (is_accepted o) places xs) → Adds sums o places xs r
   adds_by r q t e f g = rw (e, f, g) at q ∙ ap (plus sums) (sym (one_share t))
 
-  pub plus_accepted : (n m : ℕ) (z : ℤ) → is_accepted o ≡ true → n ≡ retried_in places → m ≡ square_sum xs → z ≡ peak_of xs
+  pub plus_accepted : (n m : ℕ) (z : ℤ) → o ≡ Ok tt → n ≡ retried_in places → m ≡ square_sum xs → z ≡ peak_of xs
       → made (sums.accepted + 1) sums.refused (sums.retried + n) (sums.squares + m) (sums.peaks +ℤ z) ≡ plus sums (share_by (is_accepted o) places xs)
   unfolding plus
   plus_accepted n m z y e f g =
       totals_same (made (sums.accepted + 1) sums.refused (sums.retried + n) (sums.squares + m) (sums.peaks +ℤ z)) (plus sums (made 1 0 n m z)) refl (sym (add-zero sums.refused)) refl refl refl
       ∙ ap (plus sums) (rw (y, e, f, g) refl)
 
-  pub plus_refused : is_accepted o ≡ false → made sums.accepted (sums.refused + 1) sums.retried sums.squares sums.peaks ≡ plus sums (share_by (is_accepted o) places xs)
+  pub plus_refused : (refusal : Refusal) → o ≡ Err refusal → made sums.accepted (sums.refused + 1) sums.retried sums.squares sums.peaks ≡ plus sums (share_by (is_accepted o) places xs)
   unfolding plus
-  plus_refused y =
+  plus_refused refusal y =
       totals_same (made sums.accepted (sums.refused + 1) sums.retried sums.squares sums.peaks) (plus sums (made 0 1 0 0 (pos 0)))
       (sym (add-zero sums.accepted)) refl (sym (add-zero sums.retried)) (sym (add-zero sums.squares)) (sym (+ℤ_idr sums.peaks))
-      ∙ ap (plus sums) (rw y refl)
+      ∙ ap (plus sums) (rw (y, never_accepted refusal) refl)
 
 pub added : (sums r : Totals) (o : Outcome) (places : List ℕ) (xs : List ℤ) → Bounded sums → length places ≡ 4 → Words 160 xs → r ≡ plus sums (share_by (is_accepted o) places xs)
     → Adds sums o places xs r × Bounded r

@@ -1,6 +1,6 @@
 -- For inner functions: what `add` gives, and what lets one sheet more be counted.
 use Rattle.std.specs.Prelude.{◌≡◌, List, [], ◌∷◌, ℕ, ◌<◌, ℤ}
-use Rattle.outcome.specs.declared.Outcome.{Outcome}
+use Rattle.outcome.specs.Outcome.{Outcome}
 use Rattle.mr74.specs.Frame.{Trace}
 use Rattle.shift_report.specs.declared.Totals.{Totals}
 use Rattle.shift_report.specs.Totals.{totals_of}

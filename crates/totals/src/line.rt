@@ -1,9 +1,10 @@
 // The report's line.
-ghost use Rattle.std.specs.Prelude.{◌≡◌, ◌<◌, ◌≤◌, ◌+◌, length, take, []};
+ghost use Rattle.std.specs.Prelude.{◌≡◌, ◌<◌, ◌≤◌, ◌+◌, length, ◌++◌, []};
 ghost use Rattle.lines.specs.Lines.{decimal, field};
-ghost use Rattle.lines.specs.Put.{line_room, Put, Within};
+ghost use Rattle.lines.specs.Room.{line_room};
 ghost use Rattle.shift_report.specs.Report.{mean_of, mean_field, report_line};
 
+use lines::Line;
 use shift_report::Totals;
 
 // The mean of so many numbers by their sum, rounded toward minus infinity.
@@ -11,46 +12,52 @@ pub fn mean(sum: i32, count: u64) -> i32
     requires { 0 < count }
     ensures { result ≡ mean_of sum count }
 {
-    if sum < 0 {
-        let below = (-1 - sum) as u64 / count;
-        return -1 - below as i32;
-    }
-    (sum as u64 / count) as i32
+    i128::from(sum).div_euclid(i128::from(count)) as i32
 }
 
 // The mean of so many peaks, or `none`.
-fn put_mean(out: &mut [u8], at: usize, sum: i32, count: u64) -> usize
-    requires { at + 21 ≤ length out.old }
-    ensures put { Put out.old at (mean_field sum count) result out.new }
-    ensures within { result ≤ at + 21 }
+#[tactic(auto, using(shift_report::proofs::Lines::mean_none, shift_report::proofs::Lines::mean_some))]
+fn push_mean(line: &mut Line, sum: i32, count: u64)
+    requires { length line.old + 21 ≤ line_room }
+    ensures line { line.new ≡ line.old ++ mean_field sum count }
+    ensures within { length line.new ≤ length line.old + 21 }
 {
     let none = count == 0;
     if none {
-        return lines::put(out, at, b"none");
+        line.extend_from_slice(b"none");
+        return;
     }
-    lines::put_integer(out, at, mean(sum, count))
+    line.push_integer(mean(sum, count));
 }
 
 // A number and a space after it.
-fn put_field(out: &mut [u8], at: usize, n: u64) -> usize
-    requires { at + 21 ≤ length out.old }
-    ensures put { Put out.old at (field (decimal n) []) result out.new }
-    ensures within { result ≤ at + 21 }
+fn push_field(line: &mut Line, n: u64)
+    requires { length line.old + 21 ≤ line_room }
+    ensures line { line.new ≡ line.old ++ field (decimal n) [] }
+    ensures within { length line.new ≤ length line.old + 21 }
 {
-    let end = lines::put_decimal(out, at, n);
-    lines::put_byte(out, end, b' ')
+    line.push_decimal(n);
+    line.push(b' ');
 }
 
 // Accepted sheets, refused sheets, retried subframes, sum of squares, mean peak.
-pub fn report_line(out: &mut [u8], totals: Totals) -> usize
-    requires { length out.old ≡ line_room }
-    ensures line { take result out.new ≡ report_line totals }
-    ensures within { Within result out.new }
+#[tactic(auto, using(shift_report::proofs::Lines::report_laid))]
+pub fn report_line(totals: Totals) -> Line
+    ensures { result ≡ report_line totals }
 {
-    let a = put_field(out, 0, totals.accepted);
-    let b = put_field(out, a, totals.refused);
-    let c = put_field(out, b, totals.retried);
-    let d = put_field(out, c, totals.squares);
-    let e = put_mean(out, d, totals.peaks, totals.accepted);
-    lines::put_byte(out, e, b'\n')
+    let Totals {
+        accepted,
+        refused,
+        retried,
+        squares,
+        peaks,
+    } = totals;
+    let mut line = Line::new();
+    push_field(&mut line, accepted);
+    push_field(&mut line, refused);
+    push_field(&mut line, retried);
+    push_field(&mut line, squares);
+    push_mean(&mut line, peaks, accepted);
+    line.push(b'\n');
+    line
 }

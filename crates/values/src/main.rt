@@ -1,28 +1,25 @@
 // Runs document 01's values to hold through the code, the starred ones among them, means of peaks and shift reports, and prints each with its input.
 #![tactic(auto)]
 
-use lines::LINE_ROOM;
 use pitch::{Fraction, PitchLag};
+use std::fmt::Display;
 use std::io;
 
-fn print_signed(rt: &impl Print, x: i32) -> io::Result<()> {
-    print!(rt; "{x}")
-}
-
 // name, input and answer in a line
-fn line(rt: &impl Print, name: &str, input: i32, answer: i32) -> io::Result<()> {
+fn line(
+    rt: &impl Print,
+    name: &str,
+    input: impl Display + Drop,
+    answer: impl Display + Drop,
+) -> io::Result<()> {
     println!(rt; "{name} {input}: {answer}")
-}
-
-fn short(rt: &impl Print, name: &str, input: i16, answer: i16) -> io::Result<()> {
-    line(rt, name, input as i32, answer as i32)
 }
 
 fn frequencies(rt: &impl Print) -> io::Result<()> {
     let lsf = [0i16, 128, 8191, 16383, 16384, 0, 0, 0, 0, 0];
     let lsp = spectral::lsf_to_lsp(lsf);
-    for i in 0..5 {
-        short(rt, "LSF", lsf[i], lsp[i])?;
+    for (input, answer) in lsf.iter().zip(&lsp).take(5) {
+        line(rt, "LSF", *input, *answer)?;
     }
     Ok(())
 }
@@ -31,8 +28,8 @@ fn frequencies(rt: &impl Print) -> io::Result<()> {
 fn lag(rt: &impl Print, name: &str, index: u8, l: PitchLag) -> io::Result<()> {
     let samples = l.samples;
     let fraction = l.fraction;
-    line(rt, name, index as i32, samples as i32)?;
-    short(rt, "thirds", index as i16, fraction.thirds())
+    line(rt, name, index, samples)?;
+    line(rt, "thirds", index, fraction.thirds())
 }
 
 fn after(samples: u16) -> PitchLag {
@@ -60,12 +57,7 @@ fn relative_lags(rt: &impl Print) -> io::Result<()> {
 }
 
 fn coefficient(rt: &impl Print, value: i32) -> io::Result<()> {
-    line(
-        rt,
-        "coefficient",
-        value,
-        lpc::rounded_coefficient(value) as i32,
-    )
+    line(rt, "coefficient", value, lpc::rounded_coefficient(value))
 }
 
 fn coefficients(rt: &impl Print) -> io::Result<()> {
@@ -83,7 +75,7 @@ fn inverse_root(rt: &impl Print, value: i32) -> io::Result<()> {
 fn energy_of(rt: &impl Print, sample: i16) -> io::Result<()> {
     let mut samples = [0i16; 40];
     samples[0] = sample;
-    line(rt, "energy", sample as i32, energy::energy(samples))
+    line(rt, "energy", sample, energy::energy(samples))
 }
 
 fn energies(rt: &impl Print) -> io::Result<()> {
@@ -102,18 +94,14 @@ fn first_clamp(rt: &impl Print, second: i16) -> io::Result<()> {
     excitation[0] = 32767;
     excitation[1] = second;
     let r = synthesis::preview(row, excitation, [0i16; 10]);
-    let place = r.place;
-    if place <= 40 {
-        line(rt, "synthesis 32767,", second as i32, place as i32)?;
-    }
-    Ok(())
+    line(rt, "synthesis 32767,", second, r.place)
 }
 
 // of a frame whose other samples are 0
 fn peak_of(rt: &impl Print, sample: i16) -> io::Result<()> {
     let mut samples = [0i16; 160];
     samples[159] = sample;
-    line(rt, "peak", sample as i32, lines::peak(samples))
+    line(rt, "peak", sample, lines::peak(samples))
 }
 
 // -32768 has no opposite among the samples: 32767 is the largest
@@ -138,11 +126,8 @@ fn peak_below_zero(rt: &impl Print) -> io::Result<()> {
 
 // the mark of a peak, without a retry and with one in each subframe
 fn mark(rt: &impl Print, peak: i32) -> io::Result<()> {
-    print!(rt; "mark ")?;
-    print_signed(rt, peak)?;
+    print!(rt; "mark {peak}: ")?;
     let marks = [
-        b':',
-        b' ',
         lines::mark(peak, [false, false, false, false]),
         lines::mark(peak, [true, false, false, false]),
         lines::mark(peak, [false, true, false, false]),
@@ -204,11 +189,9 @@ fn spaced(listing: [u8; 1131]) -> [u8; 1131] {
 
 // the shift report of so many bytes of a lent input, behind a name
 fn report_of(rt: &impl Print, name: &str, input: &[u8], count: usize) -> io::Result<()> {
-    let mut text = [0u8; LINE_ROOM];
-    if count <= input.len() {
-        let end = totals::report(&mut text, &input[0..count]);
+    if let Some(bytes) = input.get(..count) {
         print!(rt; "{name} {count} bytes: ")?;
-        rt.write_all(&text[..end])?;
+        rt.write_all(totals::report(bytes).as_bytes())?;
     }
     Ok(())
 }

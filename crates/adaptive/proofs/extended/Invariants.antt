@@ -1,14 +1,14 @@
 -- `adaptive::extended` meets its contract: n samples are made, and `plain` is the test of all that stands.
 use Prim.Native.Nat.{◌+◌, ◌-◌, ◌≤◌}
 use lib.IntN.{pos}
-use lib.ListN.{take}
+use Rattle.pitch.specs.Lag.{lag_of}
 use Rattle.lists.proofs.Grow.{Grown}
-use Rattle.adaptive.specs.Predict.{sample_at}
+use Rattle.adaptive.specs.Predict.{phase, sample_at}
 use Rattle.adaptive.proofs.Tested.{Tested}
 use Rattle.adaptive.proofs.extended.Given as goal
 
 abbrev pub invariant-loop-n : goal.invariant-loop-n
-invariant-loop-n l = (l.n ≤ 40) × (Grown (sample_at (pos l.start) (pos l.phase)) (take 154 l.initial.buffer) 154 194 l.buffer l.n × Tested l.buffer (154 + l.n) l.plain)
+invariant-loop-n l = (l.n ≤ 40) × (Grown (sample_at (pos l.start) (phase (lag_of l.fn.lag))) l.fn.history 154 194 l.buffer l.n × Tested l.buffer (154 + l.n) l.plain)
 
 abbrev pub decreases-loop-n : goal.decreases-loop-n
 decreases-loop-n l = 40 - l.n

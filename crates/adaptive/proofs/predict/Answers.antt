@@ -1,4 +1,4 @@
--- `adaptive::predict` meets its contract: a copy of the samples after the history.
+-- `adaptive::predict` meets its contract: what comes after the history.
 use mathlib.Core.Path.{ap, ◌∙◌}
 use borrow.Author.Rules.{rules}
 use lib.ListN.{drop}
@@ -8,5 +8,4 @@ use Rattle.adaptive.proofs.predict.Goals as goal
 
 pub returns : goal.returns
 unfolding predicted
-returns c =
-    c.copy.ensures ∙ stretch_end c.extended-buffer.result 154 40 (search rules) ∙ ap (drop 154) c.extended-buffer.ensures
+returns c = c.stretch.ensures ∙ stretch_end c.extended.result 154 40 (search rules) ∙ ap (drop 154) c.extended.ensures

@@ -1,20 +1,11 @@
 -- `adaptive::quiet` meets its contract: a fold of the tests of the numbers.
-use mathlib.Core.Path.{refl, ap, ◌∙◌}
-use mathlib.Core.Bool.{Bool, not, ◌&&◌}
+use mathlib.Core.Bool.{true, not, ◌&&◌}
 use borrow.Author.Rules.{rules}
-use mir.Syntax.{w16}
-use Rattle.lists.proofs.Signed.{back}
-use Rattle.lists.proofs.Fold.{fold_none, fold_more, fold_done}
+use Rattle.std.proofs.lemmas.Iterator.{YieldsList-from_slice}
+use Rattle.std.proofs.lemmas.Iterator.Consumers.{fold_from_yields_List}
 use Rattle.adaptive.specs.Inner.{large, quiet}
 use Rattle.adaptive.proofs.quiet.Goals as goal
 
-pub loop-i-init : goal.loop-i-init
-unfolding quiet
-loop-i-init c = (search rules, fold_none (search rules) refl)
-
-pub loop-i-preserved : goal.loop-i-preserved
-loop-i-preserved c =
-    (search rules, fold_more c.loop-i.invariant.1 (ap (λ (b : Bool). c.loop-i.none && not b) (c.large.ensures ∙ ap large (back w16 c.large-arg-1.given))) (search rules))
-
 pub returns : goal.returns
-returns c = fold_done c.loop-i.invariant.1 (search rules)
+unfolding quiet
+returns c = fold_from_yields_List _ (λ none x. none && not (large x)) true _ c.fold.ensures.ran (YieldsList-from_slice c.args.history cc) (λ a x b q c. search rules)

@@ -24,7 +24,7 @@ mac-sum-requires c q =
     unclamped_eq (back w16 c.mac-arg-1.given) (back w16 c.mac-arg-in-loop-i-1.given) (first _ _ _ _ _ c.requires.quiet.0 c.requires.quiet.1 (search rules) c.loop-i.invariant.1 (search rules) q).plain
 
 -- the sum after the first step
-after_first : (c : After-mac-sum) → to_z w32 (of_z w32 c.mac-sum.result) ≡ l_mac (to_z w32 c.loop-i.sum-bits) (at c.args.x.now (c.args.first - c.loop-i.i)) (left_of c.args.taps.now c.args.base c.loop-i.i)
+after_first : (c : After-mac-sum) → to_z w32 (of_z w32 c.mac-sum.result) ≡ l_mac (to_z w32 c.loop-i.sum-bits) (at c.args.x.now (c.args.first - c.loop-i.i)) (left_of c.args.taps.now c.loop-i.i)
 after_first c = got w32 c.mac-sum.type_inv (c.mac-sum.ensures ∙ l_mac_eq refl (back w16 c.mac-arg-1.given) (back w16 c.mac-arg-in-loop-i-1.given))
 
 pub mac-sum-requires-in-loop-i : goal.mac-sum-requires-in-loop-i

@@ -5,7 +5,7 @@ use Rattle.adaptive.proofs.Sums.{Summed}
 use Rattle.adaptive.proofs.sample.Given as goal
 
 abbrev pub invariant-loop-i : goal.invariant-loop-i
-invariant-loop-i l = (l.i ≤ 10) × Summed l.x l.first (left_of l.taps l.base) (right_of l.taps l.base) l.plain l.sum l.i
+invariant-loop-i l = (l.i ≤ 10) × Summed l.x l.first (left_of l.taps) (right_of l.taps) l.plain l.sum l.i
 
 abbrev pub decreases-loop-i : goal.decreases-loop-i
 decreases-loop-i l = 10 - l.i

@@ -5,10 +5,12 @@ use Rattle.bench.proofs.serve.Goals as goal
 
 pub returns-in_ok-run : goal.returns-in_ok-run
 returns-in_ok-run g c =
-    let (came, took, step) = c.in_ok-opening.ensures.step in
-    whole_more _ _ _ _ _ 18446744073709551615 18446744073709551616 came _ _ _ (omega arith) took step c.if-opening.true c.in_ok-write_all.ensures.bytes c.in_ok-run.ensures
+    let (came, took, step) = c.in_ok-opening.ensures in
+    let wrote = rw c.as_bytes.ensures at c.in_ok-write_all.ensures.bytes in
+    whole_more _ _ _ _ _ 18446744073709551615 18446744073709551616 came _ _ (omega arith) took (rw c.in-Continue.is at step) wrote c.in_ok-run.ensures
 
-pub returns-else-opening : goal.returns-else-opening
-returns-else-opening g c =
-    let (came, took, step) = c.in_ok-opening.ensures.step in
-    whole_alone _ _ _ _ 18446744073709551615 18446744073709551616 came _ _ _ (omega arith) took step c.if-opening.false c.in_ok-write_all.ensures.bytes
+pub returns-in_default : goal.returns-in_default
+returns-in_default g c =
+    let (came, took, step) = c.in_ok-opening.ensures in
+    let wrote = rw c.as_bytes.ensures at c.in_ok-write_all.ensures.bytes in
+    whole_alone _ _ _ _ 18446744073709551615 18446744073709551616 came _ _ (omega arith) took (rw c.in_default.is at step) wrote

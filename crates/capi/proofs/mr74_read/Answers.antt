@@ -10,7 +10,7 @@ returns-then-state-ne-STATE_BYTES c = let a = c.args in read_unfit a.bytes.now a
 pub returns : goal.returns
 returns c =
     let a = c.args in
-    read_given a.bytes.now a.state.now a.note.now c.if-state-ne-STATE_BYTES.false c.answer_of-answer.ensures c.code.ensures c.write_body.ensures refl c.note-part.ensures.0
+    read_given a.bytes.now a.state.now a.note.now c.if-state-ne-STATE_BYTES.false c.answer_of-answer.ensures c.code.ensures c.write_body.ensures refl c.note.ensures.0
 
 pub code-requires : goal.code-requires
 code-requires c = let a = c.args in rw c.answer_of-answer.ensures (read_place a.bytes.now)

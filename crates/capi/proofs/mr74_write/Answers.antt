@@ -11,7 +11,7 @@ returns-then-state-ne-STATE_BYTES c = let a = c.args in write_unfit a.state.now 
 pub returns : goal.returns
 returns c =
     let a = c.args in
-    write_given a.state.now a.bytes.now c.if-state-ne-STATE_BYTES.false c.state_in-written.ensures c.write-outcome.ensures c.code.ensures
+    write_given a.state.now a.bytes.now c.if-state-ne-STATE_BYTES.false c.state_in.ensures c.write.ensures c.code.ensures
 
 pub code-requires : goal.code-requires
-code-requires c = let a = c.args in rw (ap (λ (x : WriteResult). x.outcome) c.write-outcome.ensures) (write_place c.state_in-written.result a.bytes.now)
+code-requires c = let a = c.args in rw (ap (λ (x : WriteResult). x.outcome) c.write.ensures) (write_place c.state_in.result a.bytes.now)

@@ -5,4 +5,4 @@ use Rattle.mr74.proofs.decode.Goals as goal
 
 pub returns : goal.returns
 returns c =
-    decoded_are (inputs_of c.args.inputs) c.args.state c.decode-frame.ensures c.process-filtered.ensures
+    decoded_are (inputs_of c.args.inputs) c.args.state c.decode.ensures c.process.ensures

@@ -1,29 +1,34 @@
 -- `postfilter::preemphasis` meets its contract: the first i are emphasised, and `previous` is the residual before the next.
+use Prim.Native.Nat.{◌<◌}
 use mathlib.Core.Path.{refl, ◌∙◌}
+use lib.ListN.{length}
 use native.Mathlib.Numerals.{add-one}
 use borrow.Author.Rules.{rules}
 use mir.Syntax.{w16}
+use mir.Val.{SFits}
 use mir.Facts.{to_z-of_z}
 use Rattle.lists.specs.Lists.{at}
-use Rattle.lists.proofs.Signed.{back, got}
-use Rattle.lists.proofs.Fill.{fill_none, fill_more, fill_whole}
+use Rattle.lists.proofs.Signed.{got}
+use Rattle.lists.proofs.Fill.{fill_none, fill_more, fill_whole, untouched_none, untouched_more, untouched_here}
 use Rattle.postfilter.proofs.Preemphases.{preemphasised_length, preemphasised_at}
 use Rattle.postfilter.proofs.preemphasis.Goals as goal
 
-pub loop-i-init : goal.loop-i-init
-loop-i-init c = (search rules, (fill_none (preemphasised_length _ _ c.args.residual ∙ search rules) (search rules), refl))
+pub loop-r-init : goal.loop-r-init
+loop-r-init c =
+    (fill_none (preemphasised_length _ _ c.args.residual ∙ search rules) (search rules), (untouched_none c.args.residual, refl))
 
-pub loop-i-preserved : goal.loop-i-preserved
-loop-i-preserved c =
+pub loop-r-preserved : goal.loop-r-preserved
+loop-r-preserved c =
     let x = c.args.residual in
-    let i = c.loop-i.i in
-    let v = back w16 {z = at x i} c.emphasised-arg-1.given in (
-      search rules,
-      (
-        fill_more c.loop-i.invariant.1.0 (got w16 c.emphasised.type_inv (c.emphasised.ensures ∙ rw (v, c.loop-i.invariant.1.1) (preemphasised_at _ _ x i (search rules)))) (search rules) (search rules),
-        back w16 {z = at x i} c.previous-1.given ∙ rw (add-one i),
-      ),
-    )
+    let i = c.loop-r.r-index in
+    let r = c.loop-r.invariant in
+    let here = untouched_here r.1.0 in
+    let u : i < 40 = c.loop-r-test.true in
+    let l : i < length x = search rules in
+    let f : SFits w16 (at c.loop-r.r-items i) = search rules in
+    let v = to_z-of_z f ∙ here in
+    let e = got w16 c.emphasised.type_inv (c.emphasised.ensures ∙ rw (v, r.1.1) (preemphasised_at _ _ x i l)) in
+    (fill_more r.0 e u u, (untouched_more _ r.1.0, v ∙ rw (add-one i)))
 
 pub returns : goal.returns
-returns c = rw (to_z-of_z c.ranges.carried) at (fill_whole c.loop-i.invariant.1.0 (search rules))
+returns c = rw (to_z-of_z c.ranges.carried) at (fill_whole c.loop-r.invariant.0 (search rules))

@@ -1,9 +1,8 @@
--- `replay::run` keeps every bound: the records counted are at most a million, and those that differ no more than they.
-use Prim.Native.Nat.{◌≤◌, ◌-◌}
+-- `replay::run` keeps every bound: the records counted are no more than the turns, and those that differ no more than they.
+use lib.IntN.{pos}
+use Rattle.std.specs.Prelude.{◌≤ℤ◌}
+use Prim.Native.Nat.{◌≤◌}
 use Rattle.replay.proofs.run.Given as goal
 
-abbrev pub invariant-loop-records : goal.invariant-loop-records
-invariant-loop-records g l = (l.records ≤ 1000000) × (l.different ≤ l.records)
-
-abbrev pub decreases-loop-records : goal.decreases-loop-records
-decreases-loop-records g l = 1000000 - l.records
+abbrev pub invariant-loop : goal.invariant-loop
+invariant-loop g l = (pos l.counts.records ≤ℤ l.counter) × (l.counts.different ≤ l.counts.records)

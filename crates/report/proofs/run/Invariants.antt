@@ -6,15 +6,11 @@ use Rattle.report.specs.Serving.{TakesAtMost}
 use Rattle.report.proofs.Rounds.{ToCome}
 use Rattle.report.proofs.run.Given as goal
 
-abbrev pub invariant-loop-number : goal.invariant-loop-number
-invariant-loop-number g l =
+abbrev pub invariant-loop : goal.invariant-loop
+invariant-loop g l =
     record {
-      within : l.number ≤ 65535;
       bounded : Bounded l.totals;
-      counted : sheets_counted l.totals ≤ l.number;
-      to_come : ToCome (g.R.Read.remaining l.initial.input) (g.R.Read.remaining l.input) 65535 (totals_of []) l.initial.state (65535 - l.number) l.totals l.state;
-      taken : TakesAtMost (g.R.Read.remaining l.initial.input) (g.R.Read.remaining l.input) (364 * l.number);
+      counted : sheets_counted l.totals ≤ l.counter;
+      to_come : ToCome (g.R.Read.remaining l.fn.input) (g.R.Read.remaining l.input) 65535 (totals_of []) l.fn.first (65535 - l.counter) l.totals l.state;
+      taken : TakesAtMost (g.R.Read.remaining l.fn.input) (g.R.Read.remaining l.input) (364 * l.counter);
     }
-
-abbrev pub decreases-loop-number : goal.decreases-loop-number
-decreases-loop-number g l = 65535 - l.number

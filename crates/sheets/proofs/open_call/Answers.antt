@@ -1,13 +1,15 @@
--- `sheets::open_call` meets its contract: by the reader's outcome, nothing and the state, or the line of the refusal.
-use Rattle.std.proofs.Common.{take, sym, ◌∙◌}
+-- `sheets::open_call` meets its contract: an accepted record opens the run, and a refused one is told by its refusal's number.
+use mathlib.Core.Path.{sym, ap, ◌∙◌}
+use Rattle.outcome.specs.Outcome.{number_of, is_accepted}
+use Rattle.outcome.proofs.Variants.{never_accepted}
 use Rattle.sheets.proofs.Opening.{opening_accepted, opening_refused}
 use Rattle.sheets.proofs.open_call.Goals as goal
 
-pub returns-then-accepted-clause-step : goal.returns-then-accepted-clause-step
-returns-then-accepted-clause-step c =
-    opening_accepted c.args.bytes.now c.answer_of-answer.result c.answer_of-answer.ensures (sym c.accepted.ensures ∙ c.if-accepted.true)
+pub returns-in-Ok : goal.returns-in-Ok
+returns-in-Ok c = rw c.new.ensures (opening_accepted c.args.bytes.now c.answer_of-outcome.result c.answer_of-outcome.ensures (ap is_accepted c.in-Ok.is))
 
-pub returns-clause-step : goal.returns-clause-step
-returns-clause-step c =
-    let l = c.state_line-count in
-    opening_refused c.args.bytes.now c.answer_of-answer.result c.answer_of-answer.ensures (take l.result l.new.out) c.number.result (sym c.accepted.ensures ∙ c.if-accepted.false) c.number.ensures l.ensures.line
+pub returns-in-Err : goal.returns-in-Err
+returns-in-Err c =
+    let e = c.in-Err.is in
+    opening_refused c.args.bytes.now c.answer_of-outcome.result c.answer_of-outcome.ensures _ c.number.result
+    (ap is_accepted e ∙ never_accepted c.in-Err.refusal) (c.number.ensures ∙ sym (ap number_of e)) c.state_line.ensures

@@ -1,22 +1,21 @@
 -- `totals::report` meets its contract: by the first step, the line of the totals of the sheets after the record, or the line of its refusal.
-use Prim.Native.Nat.{ℕ}
-use mathlib.Core.Path.{ap, ◌∙◌}
-use mathlib.Core.List.{List}
-use lib.ListN.{take}
+use Rattle.std.proofs.Common.{◌∙◌, ap, refl, List, ℕ}
+use Rattle.std.proofs.lemmas.List.{take_min, drop_min}
 use Rattle.sheets.specs.Sheets.{opening_step}
 use Rattle.shift_report.specs.Totals.{totals_of}
 use Rattle.shift_report.specs.Report.{sheet_traces, report_line}
-use Rattle.totals.proofs.Runs.{front_is, behind_is}
 use Rattle.shift_report.proofs.Steps.{report_more, report_end}
 use Rattle.totals.proofs.report.Goals as goal
 
-pub returns-then-opening : goal.returns-then-opening
-returns-then-opening c =
+pub returns-in-Continue : goal.returns-in-Continue
+returns-in-Continue c =
     let input = c.args.input.now in
-    let g = c.open_call-opening in
-    let n = c.record_end-n.result in
-    let q = report_more input (take g.result.count g.new.line) g.result.next g.result.more (g.ensures.step ∙ ap opening_step (front_is input n c.record_end-n.ensures)) c.if-opening.true in record { line = c.report_line.ensures.line ∙ ap report_line (c.run.ensures ∙ ap (λ (bytes : List ℕ). totals_of (sheet_traces 65535 g.result.next bytes)) (behind_is input n c.record_end-n.ensures)) ∙ q.1; within = c.report_line.ensures.within }
+    let front = c.split_at.ensures.front ∙ rw c.min.ensures (take_min 402 input) in
+    let behind = c.split_at.ensures.back ∙ rw c.min.ensures (drop_min 402 input) in
+    c.report_line.ensures ∙ ap report_line (c.run.ensures ∙ ap (λ (bytes : List ℕ). totals_of (sheet_traces 65535 c.in-Continue.state bytes)) behind)
+    ∙ (report_more input _ _ _ (rw c.in-Continue.is at c.open_call-opening.ensures ∙ ap opening_step front) refl).1
 
-pub returns : goal.returns
-returns c =
-    let g = c.open_call-opening in record { line = report_end c.args.input.now (take g.result.count g.new.line) g.result.next g.result.more (g.ensures.step ∙ ap opening_step (front_is c.args.input.now c.record_end-n.result c.record_end-n.ensures)) c.if-opening.false; within = g.ensures.within }
+pub returns-in-Break : goal.returns-in-Break
+returns-in-Break c =
+    let front = c.split_at.ensures.front ∙ rw c.min.ensures (take_min 402 c.args.input.now) in
+    report_end c.args.input.now _ _ _ (rw c.in-Break.is at c.open_call-opening.ensures ∙ ap opening_step front) refl

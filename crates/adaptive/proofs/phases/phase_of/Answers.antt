@@ -3,11 +3,11 @@ use Rattle.pitch.specs.declared.Fraction.TheVariants.{MinusThird, Zero, PlusThir
 use Rattle.adaptive.proofs.Places.{phase_by}
 use Rattle.adaptive.proofs.phases.phase_of.Goals as goal
 
-pub returns-in-MinusThird : goal.returns-in-MinusThird
-returns-in-MinusThird c = phase_by c.args.lag MinusThird (cc)
+pub returns-in-MinusThird-clause-value : goal.returns-in-MinusThird-clause-value
+returns-in-MinusThird-clause-value c = phase_by c.args.lag MinusThird (cc)
 
-pub returns-in-Zero : goal.returns-in-Zero
-returns-in-Zero c = phase_by c.args.lag Zero (cc)
+pub returns-in-Zero-clause-value : goal.returns-in-Zero-clause-value
+returns-in-Zero-clause-value c = phase_by c.args.lag Zero (cc)
 
-pub returns-in-PlusThird : goal.returns-in-PlusThird
-returns-in-PlusThird c = phase_by c.args.lag PlusThird (cc)
+pub returns-in-PlusThird-clause-value : goal.returns-in-PlusThird-clause-value
+returns-in-PlusThird-clause-value c = phase_by c.args.lag PlusThird (cc)

@@ -34,8 +34,8 @@ returns-then-low c = to_z-of_z (overflow_cast-result c) ∙ read c.before ∙ sy
 pub overflow_sub-result : goal.overflow_sub-result
 overflow_sub-result c = rw (read c.before) (sfits_by (omega (arith_ℤ, sub_ℤ_is (pos (mod_z c.args.x 65536)) (pos 65536), mod_z_lt c.args.x 65536 (lit< tt))))
 
-pub overflow_cast-result-2 : goal.overflow_cast-result-2
-overflow_cast-result-2 c = rw (to_z-of_z (overflow_sub-result c), read c.before, ← high c) (wrap_fits w16 c.args.x)
+pub overflow_cast-result-else-low : goal.overflow_cast-result-else-low
+overflow_cast-result-else-low c = rw (to_z-of_z (overflow_sub-result c), read c.before, ← high c) (wrap_fits w16 c.args.x)
 
-pub returns : goal.returns
-returns c = to_z-of_z (overflow_cast-result-2 c) ∙ to_z-of_z (overflow_sub-result c) ∙ rw (read c.before) (sym (high c))
+pub returns-else-low : goal.returns-else-low
+returns-else-low c = to_z-of_z (overflow_cast-result-else-low c) ∙ to_z-of_z (overflow_sub-result c) ∙ rw (read c.before) (sym (high c))

@@ -5,14 +5,12 @@ use native.Mathlib.Omega.{arith}
 use lib.Pow.{pow_mono}
 use lib.Signed.{mag}
 use mir.Syntax.{w32, w64}
+use mir.Val.{SFits}
 use mir.Facts.{to_z-of_z}
 use Rattle.lists.proofs.Signed.{got}
 use Rattle.basicop.proofs.Calls.{rules_ℤ}
 use Rattle.basicop.proofs.Clamp.{clamp_min}
 use Rattle.basicop.proofs.shifting.left.Goals as goal
-
-pub overflow_cast-x : goal.overflow_cast-x
-overflow_cast-x c = search rules_ℤ
 
 pub overflow_mul-x : goal.overflow_mul-x
 overflow_mul-x c =
@@ -21,6 +19,6 @@ overflow_mul-x c =
 
 pub returns : goal.returns
 returns c =
-    let s = c.before.before in
+    let wide : SFits w64 c.args.x = search rules_ℤ in
     got w32 c.clamp32.type_inv
-    (rw (to_z-of_z (overflow_mul-x c.before), to_z-of_z (overflow_cast-x s), to_z-of_z c.ranges.x, got w64 c.pow2.type_inv c.pow2.ensures) at c.clamp32.ensures ∙ clamp_min w32 c.args.x c.args.n)
+    (rw (to_z-of_z (overflow_mul-x c.before), to_z-of_z c.ranges.x, to_z-of_z wide, got w64 c.pow2.type_inv c.pow2.ensures) at c.clamp32.ensures ∙ clamp_min w32 c.args.x c.args.n)

@@ -1,19 +1,13 @@
 -- `right` meets its contract: a count above 31 leaves the sign as 31 does.
-use native.Mathlib.Omega.{arith}
-use lib.Dec.{lit≤}
+use Prim.Native.Nat.{min}
 use mir.Syntax.{w32}
 use mir.Facts.{to_z-of_z}
 use Rattle.basicop.specs.Ops.{asr}
-use Rattle.basicop.proofs.Calls.{rules_ℤ}
-use Rattle.basicop.proofs.Shift.{asr_far, sfits_shr_same}
+use Rattle.basicop.proofs.Shift.{asr_min, asr_same}
 use Rattle.basicop.proofs.shifting.right.Goals as goal
-
-pub returns-then-n-lt32 : goal.returns-then-n-lt32
-unfolding asr
-returns-then-n-lt32 c = search rules_ℤ
 
 pub returns : goal.returns
 unfolding asr
 returns c =
-    let f = c.ranges.x in
-    rw (to_z-of_z f, to_z-of_z (sfits_shr_same w32 _ 2147483648 f)) (asr_far w32 _ 31 c.args.n f (lit≤ tt) (omega arith))
+    let a = c.args in
+    rw (c.min.ensures, to_z-of_z c.ranges.x, to_z-of_z (asr_same w32 a.x (min a.n 31) c.ranges.x)) (asr_min w32 a.x a.n c.ranges.x)

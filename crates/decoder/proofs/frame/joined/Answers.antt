@@ -13,10 +13,4 @@ joined_is a b c d r s t u er es et eu l =
     sym (take_all 160 u (omega (arith, l))) ∙ eu ∙ rw (et, es, er) (append_assoc (a ++ b) c d ∙ append_assoc a b (c ++ d))
 
 pub returns : goal.returns
-returns c =
-    joined_is _ _ _ _ c.put-first.result c.put-second.result c.put-third.result c.put.result
-    c.put-first.ensures
-    c.put-second.ensures
-    c.put-third.ensures
-    c.put.ensures
-    (search rules)
+returns c = joined_is _ _ _ _ c.put.new.frame c.put-2.new.frame c.put-3.new.frame c.put-4.new.frame c.put.ensures c.put-2.ensures c.put-3.ensures c.put-4.ensures (search rules)

@@ -4,4 +4,4 @@ use Rattle.decoder.proofs.subframe.decode_subframe.Goals as goal
 
 pub returns : goal.returns
 returns c =
-    subframe_is c.args.core c.args.row c.args.p c.excite-e.ensures c.synthesise-s.ensures c.next_sharpening-sharpening.ensures c.newest-newest.ensures
+    subframe_is c.args.core.now c.args.row c.args.p c.excite.ensures c.synthesise-place.ensures c.next_sharpening-sharpening.ensures c.newest-history.ensures

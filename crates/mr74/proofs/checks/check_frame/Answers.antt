@@ -1,30 +1,30 @@
 -- `check_frame` meets its contract: group after group, the first that refuses decides.
-use mathlib.Core.Path.{ap, ◌∙◌}
-use mathlib.Core.Bool.{not}
-use lib.ListN.{length}
-use Rattle.outcome.proofs.Checks.{refused_here, accepted_here, accepts_here}
-use Rattle.mr74.specs.Checks.{frame_outcome}
-use Rattle.mr74.proofs.Groups.{lengths_accept}
+use Rattle.std.proofs.lemmas.Result.{err_from_is_err_and}
+use Rattle.mr74.proofs.Order.{lengths_refuse, sheet_refuses, state_decides}
 use Rattle.mr74.proofs.checks.check_frame.Goals as goal
 
-pub returns-then-not-accepted : goal.returns-then-not-accepted
-unfolding frame_outcome
-returns-then-not-accepted c =
-    refused_here _ _ tt c.check_lengths-lengths.ensures c.accepted.ensures (ap not c.if-not-accepted.true)
+pub returns-in_err-numbers : goal.returns-in_err-numbers
+returns-in_err-numbers c =
+    let a = c.args in
+    let p = err_from_is_err_and c.from_residual.result c.from_residual.ensures.1 in
+    rw (p.1, p.2) (lengths_refuse a.sheet.now a.state a.room c.in_err-numbers.ensures)
 
-pub check_sheet-numbers-requires : goal.check_sheet-numbers-requires
-check_sheet-numbers-requires c =
-    (lengths_accept 182 (length c.args.sheet.now) c.args.room (accepts_here _ c.check_lengths-lengths.ensures c.accepted.ensures (ap not c.if-not-accepted.false))).0
+pub returns-in_err-check_sheet : goal.returns-in_err-check_sheet
+returns-in_err-check_sheet c =
+    let a = c.args in
+    let k = c.in_ok-numbers.ensures in
+    let p = err_from_is_err_and c.from_residual-in_err-check_sheet.result c.from_residual-in_err-check_sheet.ensures.1 in
+    rw (p.1, p.2) (sheet_refuses a.sheet.now a.state a.room k.0 k.1 c.in_err-check_sheet.ensures)
 
-pub returns-then-not-accepted-2 : goal.returns-then-not-accepted-2
-unfolding frame_outcome
-returns-then-not-accepted-2 c =
-    refused_here _ _ tt c.check_sheet-numbers.ensures c.accepted-2.ensures (ap not c.if-not-accepted-2.true)
-    ∙ accepted_here _ _ tt c.check_lengths-lengths.ensures c.accepted.ensures (ap not c.if-not-accepted.false)
+pub returns-in_err-check_state : goal.returns-in_err-check_state
+returns-in_err-check_state c =
+    let a = c.args in
+    let k = c.in_ok-numbers.ensures in
+    let p = err_from_is_err_and c.from_residual-in_err-check_state.result c.from_residual-in_err-check_state.ensures.1 in
+    rw (p.1, p.2) (state_decides a.sheet.now a.state a.room k.0 k.1 c.in_ok-check_sheet.ensures c.in_err-check_state.ensures)
 
 pub returns : goal.returns
-unfolding frame_outcome
 returns c =
-    c.check_state.ensures
-    ∙ accepted_here _ _ tt c.check_sheet-numbers.ensures c.accepted-2.ensures (ap not c.if-not-accepted-2.false)
-    ∙ accepted_here _ _ tt c.check_lengths-lengths.ensures c.accepted.ensures (ap not c.if-not-accepted.false)
+    let a = c.args in
+    let k = c.in_ok-numbers.ensures in
+    (state_decides a.sheet.now a.state a.room k.0 k.1 c.in_ok-check_sheet.ensures c.in_ok-check_state.ensures, k.1)

@@ -1,11 +1,14 @@
 -- `check_gains` meets its contract: the place is that of the search.
+use mathlib.Core.List.{[]}
 use mathlib.Core.Path.{◌∙◌}
-use Rattle.outcome.specs.declared.Outcome.TheVariants.{Gain}
+use native.Mathlib.Omega.{arith}
+use Rattle.outcome.specs.declared.Refusal.TheVariants.{Gain}
 use Rattle.outcome.proofs.Checks.{place_met, place_unmet, none_left}
+use Rattle.mr74.proofs.Groups.{stretch_length}
 use Rattle.mr74.proofs.checks.check_gains.Goals as goal
 
-pub returns-then-place-lt8 : goal.returns-then-place-lt8
-returns-then-place-lt8 c = place_met Gain _ _ _ c.first_outside-place.ensures c.if-place-lt8.true
+pub returns-in-Some : goal.returns-in-Some
+returns-in-Some c = place_met Gain _ 8 [] (stretch_length c.args.sheet.now 14 8 (omega (arith, c.told-sheet))) c.in-Some.ensures
 
 pub returns : goal.returns
-returns c = none_left ∙ place_unmet Gain _ _ _ c.first_outside-place.ensures c.if-place-lt8.false
+returns c = none_left ∙ place_unmet Gain _ 8 [] (stretch_length c.args.sheet.now 14 8 (omega (arith, c.told-sheet))) c.in_default.ensures

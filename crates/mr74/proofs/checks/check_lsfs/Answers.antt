@@ -1,19 +1,21 @@
 -- `check_lsfs` meets its contract: the places are those of the two searches.
+use mathlib.Core.List.{[]}
 use mathlib.Core.Path.{◌∙◌}
-use Rattle.outcome.specs.declared.Outcome.TheVariants.{Lsf, LsfGap}
+use native.Mathlib.Omega.{arith}
+use Rattle.outcome.specs.declared.Refusal.TheVariants.{Lsf, LsfGap}
 use Rattle.outcome.proofs.Checks.{place_met, place_unmet, none_left}
+use Rattle.mr74.proofs.Groups.{stretch_length}
 use Rattle.mr74.proofs.checks.check_lsfs.Goals as goal
 
-pub returns-then-outside-lt10 : goal.returns-then-outside-lt10
-returns-then-outside-lt10 c = place_met Lsf _ _ _ c.first_outside-outside.ensures c.if-outside-lt10.true
+pub returns-in-Some : goal.returns-in-Some
+returns-in-Some c = place_met Lsf _ 10 _ (stretch_length c.args.sheet.now 0 10 (omega (arith, c.told-sheet))) c.in-Some.ensures
 
-pub returns-then-close-lt10 : goal.returns-then-close-lt10
-returns-then-close-lt10 c =
-    place_met LsfGap _ _ _ c.first_close-close.ensures c.if-close-lt10.true
-    ∙ place_unmet Lsf _ _ _ c.first_outside-outside.ensures c.if-outside-lt10.false
+pub returns-in-Some-first_close : goal.returns-in-Some-first_close
+returns-in-Some-first_close c =
+    let ten = stretch_length c.args.sheet.now 0 10 (omega (arith, c.told-sheet)) in
+    place_met LsfGap _ 10 [] ten c.in-Some-first_close.ensures ∙ place_unmet Lsf _ 10 _ ten c.in_default.ensures
 
 pub returns : goal.returns
 returns c =
-    none_left
-    ∙ place_unmet LsfGap _ _ _ c.first_close-close.ensures c.if-close-lt10.false
-    ∙ place_unmet Lsf _ _ _ c.first_outside-outside.ensures c.if-outside-lt10.false
+    let ten = stretch_length c.args.sheet.now 0 10 (omega (arith, c.told-sheet)) in
+    none_left ∙ place_unmet LsfGap _ 10 [] ten c.in_default-first_close.ensures ∙ place_unmet Lsf _ 10 _ ten c.in_default.ensures

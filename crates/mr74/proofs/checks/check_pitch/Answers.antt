@@ -1,11 +1,14 @@
 -- `check_pitch` meets its contract: the place is that of the search.
+use mathlib.Core.List.{[]}
 use mathlib.Core.Path.{◌∙◌}
-use Rattle.outcome.specs.declared.Outcome.TheVariants.{PitchIndex}
+use native.Mathlib.Omega.{arith}
+use Rattle.outcome.specs.declared.Refusal.TheVariants.{PitchIndex}
 use Rattle.outcome.proofs.Checks.{place_met, place_unmet, none_left}
+use Rattle.mr74.proofs.Groups.{stretch_length}
 use Rattle.mr74.proofs.checks.check_pitch.Goals as goal
 
-pub returns-then-place-lt4 : goal.returns-then-place-lt4
-returns-then-place-lt4 c = place_met PitchIndex _ _ _ c.first_outside-place.ensures c.if-place-lt4.true
+pub returns-in-Some : goal.returns-in-Some
+returns-in-Some c = place_met PitchIndex _ 4 [] (stretch_length c.args.sheet.now 10 4 (omega (arith, c.told-sheet))) c.in-Some.ensures
 
 pub returns : goal.returns
-returns c = none_left ∙ place_unmet PitchIndex _ _ _ c.first_outside-place.ensures c.if-place-lt4.false
+returns c = none_left ∙ place_unmet PitchIndex _ 4 [] (stretch_length c.args.sheet.now 10 4 (omega (arith, c.told-sheet))) c.in_default.ensures

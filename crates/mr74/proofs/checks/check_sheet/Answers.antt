@@ -1,20 +1,24 @@
 -- `check_sheet` meets its contract: group after group, the first that refuses decides.
-use mathlib.Core.Path.{ap, ◌∙◌}
-use mathlib.Core.Bool.{not}
+use mathlib.Core.List.{◌++◌}
+use mathlib.Core.Path.{◌∙◌}
 use Rattle.outcome.proofs.Checks.{refused_here, accepted_here}
+use Rattle.mr74.specs.Checks.{lsf_checks, pitch_checks, gain_checks}
 use Rattle.mr74.proofs.checks.check_sheet.Goals as goal
 
-pub returns-then-not-accepted : goal.returns-then-not-accepted
-returns-then-not-accepted c =
-    refused_here _ _ tt c.check_lsfs-lsfs.ensures c.accepted.ensures (ap not c.if-not-accepted.true)
+pub returns-in_err-check_lsfs : goal.returns-in_err-check_lsfs
+returns-in_err-check_lsfs c =
+    let s = c.args.sheet.now in
+    refused_here (lsf_checks s) (pitch_checks s ++ gain_checks s) c.in_err-check_lsfs.ensures c.from_residual.ensures.1
 
-pub returns-then-not-accepted-2 : goal.returns-then-not-accepted-2
-returns-then-not-accepted-2 c =
-    refused_here _ _ tt c.check_pitch-pitch.ensures c.accepted-2.ensures (ap not c.if-not-accepted-2.true)
-    ∙ accepted_here _ _ tt c.check_lsfs-lsfs.ensures c.accepted.ensures (ap not c.if-not-accepted.false)
+pub returns-in_err-check_pitch : goal.returns-in_err-check_pitch
+returns-in_err-check_pitch c =
+    let s = c.args.sheet.now in
+    refused_here (pitch_checks s) (gain_checks s) c.in_err-check_pitch.ensures c.from_residual-in_err-check_pitch.ensures.1
+    ∙ accepted_here (lsf_checks s) (pitch_checks s ++ gain_checks s) c.in_ok-check_lsfs.ensures
 
 pub returns : goal.returns
 returns c =
+    let s = c.args.sheet.now in
     c.check_gains.ensures
-    ∙ accepted_here _ _ tt c.check_pitch-pitch.ensures c.accepted-2.ensures (ap not c.if-not-accepted-2.false)
-    ∙ accepted_here _ _ tt c.check_lsfs-lsfs.ensures c.accepted.ensures (ap not c.if-not-accepted.false)
+    ∙ accepted_here (pitch_checks s) (gain_checks s) c.in_ok-check_pitch.ensures
+    ∙ accepted_here (lsf_checks s) (pitch_checks s ++ gain_checks s) c.in_ok-check_lsfs.ensures

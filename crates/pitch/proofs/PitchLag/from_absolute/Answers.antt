@@ -6,5 +6,5 @@ use Rattle.pitch.proofs.PitchLag.from_absolute.Goals as goal
 pub returns-then-index-lt197 : goal.returns-then-index-lt197
 returns-then-index-lt197 c = lag_eq refl c.fraction_of.ensures ∙ sym (absolute_below c.args.index c.if-index-lt197.true)
 
-pub returns : goal.returns
-returns c = sym (absolute_from c.args.index c.if-index-lt197.false c.ranges.index.fits)
+pub returns-else-index-lt197 : goal.returns-else-index-lt197
+returns-else-index-lt197 c = sym (absolute_from c.args.index c.if-index-lt197.false c.ranges.index.fits)

@@ -1,32 +1,23 @@
--- `postfilter::residual` meets its contract: the first n numbers are those of the residual.
-use mathlib.Core.Path.{◌≡◌, sym, ◌∙◌}
-use Prim.Native.Nat.{ℕ, ◌+◌}
+-- `postfilter::residual` meets its contract: each number is that of its window of eleven inputs.
+use Prim.Native.Nat.{◌+◌}
 use borrow.Author.Rules.{rules}
-use borrow.Author.Tests.{ltb-true}
-use mir.Syntax.{w16, w32}
-use mir.Val.{to_z, of_z}
-use Rattle.lists.proofs.Signed.{got}
-use Rattle.lists.proofs.Entries.{length_tab, at_tab}
-use Rattle.lists.proofs.Fill.{fill_none, fill_more, fill_whole}
+use mathlib.Core.Path.{◌≡◌, ap, ◌∙◌}
+use native.Mathlib.Omega.{arith}
+use lib.ListN.{length, take, drop}
+use lib.IntN.{ℤ, pos}
+use Rattle.basicop.specs.Ops.{l_shl, round}
+use Rattle.lists.proofs.Made.{made_tab}
 use Rattle.postfilter.specs.Residual.{residual_at, residual}
+use Rattle.postfilter.proofs.Residuals.{residual_window}
 use Rattle.postfilter.proofs.whitening.residual.Goals as goal
 
-pub loop-n-init : goal.loop-n-init
-unfolding residual
-loop-n-init c = (search rules, fill_none (length_tab _ 40) (search rules))
-
-pub residual_sum-requires : goal.residual_sum-requires
-residual_sum-requires c =
-    (search rules, (search rules, λ q. ltb-true _ 32768 (sym c.light-plain.ensures ∙ q)))
-
-pub loop-n-preserved : goal.loop-n-preserved
-unfolding residual
-loop-n-preserved c =
-    let x = c.joined-x.result in
-    let a = c.args.numerator in
-    let e : to_z w16 (of_z w16 c.round.result) ≡ residual_at a x (c.loop-n.n + 10) = cc (got w16 c.round.type_inv c.round.ensures, got w32 c.l_shl.type_inv c.l_shl.ensures, got w32 c.residual_sum.type_inv c.residual_sum.ensures) in
-    (search rules, fill_more c.loop-n.invariant.1 (e ∙ at_tab (λ (n : ℕ). residual_at a x (n + 10)) 40 c.loop-n.n (search rules)) (search rules) (search rules))
-
 pub returns : goal.returns
+unfolding residual
 returns c =
-    fill_whole c.loop-n.invariant.1 (search rules) ∙ rw c.joined-x.ensures
+    let a = c.args.numerator in
+    let x = c.joined-x.result in
+    let l : length x ≡ 50 = search rules in
+    let e = c.new-row.ensures in
+    rw (← c.joined-x.ensures) (made_tab _ _ (λ n. residual_at a x (n + 10)) c.from_fn.ensures.items (λ i q y h c.
+    let s : (q ≡ _) × (y ≡ residual_at a (take 11 (drop i x)) 10) = search rules in
+    (s.0, s.1 ∙ ap (λ (r : ℤ). round (l_shl r (pos 3))) (residual_window a x i (omega (arith, h, l))))))

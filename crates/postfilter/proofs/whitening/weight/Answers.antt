@@ -16,7 +16,7 @@ pub loop-i-init : goal.loop-i-init
 loop-i-init c =
     let a = c.args.coefficients in
     let f = c.args.factors.now in
-    (search rules, fill_keep (fill_none (weighted_length a f (search rules) c.requires) (search rules)) (sym (weighted_first a f)) (lit< tt) (lit< tt))
+    fill_keep (fill_none (weighted_length a f (search rules) (search rules)) (search rules)) (sym (weighted_first a f)) (lit< tt) (lit< tt)
 
 pub loop-i-preserved : goal.loop-i-preserved
 loop-i-preserved c =
@@ -24,7 +24,7 @@ loop-i-preserved c =
     let f = c.args.factors.now in
     let i = c.loop-i.i in
     let e : to_z w16 (of_z w16 c.round.result) ≡ weighted_by (at a (i + 1)) (at f i) = cc (got w16 c.round.type_inv c.round.ensures, got w32 c.l_mult.type_inv c.l_mult.ensures, back w16 {z = at a (i + 1)} c.l_mult-arg-1.given, back w16 {z = at f i} c.l_mult-arg-in-loop-i-1.given) in
-    (search rules, fill_more c.loop-i.invariant.1 (e ∙ weighted_at a f (search rules) c.requires i (search rules)) (search rules) (search rules))
+    fill_more c.loop-i.invariant (e ∙ weighted_at a f (search rules) (search rules) i (search rules)) (search rules) (search rules)
 
 pub returns : goal.returns
-returns c = fill_whole c.loop-i.invariant.1 (search rules)
+returns c = fill_whole c.loop-i.invariant (search rules)

@@ -1,50 +1,48 @@
 -- `check_bytes` meets its contract: group after group, the first that refuses decides.
-use mathlib.Core.Path.{◌≡◌, ap, sym, ◌∙◌}
-use mathlib.Core.Bool.{not}
-use mathlib.Core.List.{List}
+use mathlib.Core.Path.{◌≡◌, ap₂, sym, ◌∙◌}
+use mathlib.Core.List.{List, ◌++◌}
 use Prim.Native.Nat.{ℕ, ◌-◌, ◌≤◌}
 use native.Mathlib.Omega.{arith}
-use lib.ListN.{length, length-take, length-drop}
-use Rattle.outcome.specs.Checks.{first_met}
+use lib.ListN.{length}
+use Rattle.std.specs.Prelude.{Ok}
+use Rattle.outcome.specs.Checks.{Check, first_met}
 use Rattle.outcome.proofs.Checks.{refused_here, accepted_here, accepts_here}
-use Rattle.record.specs.Record.{end_of, trailer_checks, body_checks}
-use Rattle.record.proofs.Trailers.{tail, distance_is}
+use Rattle.record.specs.Record.{end_of, distance_of, size_checks, trailer_checks, body_checks}
+use Rattle.record.proofs.Trailers.{distance_is}
 use Rattle.record.proofs.Reader.{size_accepts}
 use Rattle.record.proofs.checks.check_bytes.Goals as goal
-use Rattle.record.proofs.checks.check_bytes.Goals.{After-check_trailer-trailer, Else-not-accepted}
 
-long : (c : Else-not-accepted) → 8 ≤ length c.args.bytes.now
-long c = size_accepts _ (accepts_here _ c.check_size-size.ensures c.accepted.ensures (ap not c.if-not-accepted.false))
+-- the checks after the second group, and after the first
+abbrev last : List ℕ → List Check
+last b = body_checks (length b - 8) (distance_of b)
 
--- the trailer is what the record ends with
-trailer : (c : After-check_trailer-trailer) → c.check_trailer-trailer.result ≡ first_met (trailer_checks (end_of c.args.bytes.now))
-trailer c = let b = c.args.bytes.now in c.check_trailer-trailer.ensures ∙ ap (λ (t : List ℕ). first_met (trailer_checks t)) (tail b (length b - 8))
+abbrev rest : List ℕ → List Check
+rest b = trailer_checks (end_of b) ++ last b
 
-pub returns-then-not-accepted : goal.returns-then-not-accepted
-returns-then-not-accepted c = refused_here _ _ tt c.check_size-size.ensures c.accepted.ensures (ap not c.if-not-accepted.true)
+pub returns-in_err-check_size : goal.returns-in_err-check_size
+returns-in_err-check_size c =
+    let b = c.args.bytes.now in
+    refused_here (size_checks (length b)) (rest b) c.in_err-check_size.ensures c.from_residual.ensures.1
 
-pub returns-then-not-accepted-2 : goal.returns-then-not-accepted-2
-returns-then-not-accepted-2 c =
-    let trailer : c.check_trailer-trailer.result ≡ first_met (trailer_checks (end_of c.args.bytes.now)) = let b = c.args.bytes.now in c.check_trailer-trailer.ensures ∙ ap (λ (t : List ℕ). first_met (trailer_checks t)) (tail b (length b - 8)) in
-    let t = c.before.before in
-    refused_here _ _ tt trailer c.accepted-2.ensures (ap not c.if-not-accepted-2.true)
-    ∙ accepted_here _ _ tt c.check_size-size.ensures c.accepted.ensures (ap not c.if-not-accepted.false)
+pub overflow_sub-bytes : goal.overflow_sub-bytes
+overflow_sub-bytes c = size_accepts _ (accepts_here (size_checks (length c.args.bytes.now)) c.in_ok-check_size.ensures)
+
+pub check_trailer-requires : goal.check_trailer-requires
+check_trailer-requires c =
+    let long : 8 ≤ length c.args.bytes.now = size_accepts _ (accepts_here (size_checks (length c.args.bytes.now)) c.in_ok-check_size.ensures) in
+    omega (arith, c.split_at.ensures.back_len, long)
+
+pub returns-in_err-check_trailer : goal.returns-in_err-check_trailer
+returns-in_err-check_trailer c =
+    let b = c.args.bytes.now in
+    refused_here (trailer_checks (end_of b)) (last b) (rw c.split_at.ensures.back at c.in_err-check_trailer.ensures) c.from_residual-in_err-check_trailer.ensures.1
+    ∙ accepted_here (size_checks (length b)) (rest b) c.in_ok-check_size.ensures
 
 pub returns : goal.returns
 returns c =
-    let trailer : c.check_trailer-trailer.result ≡ first_met (trailer_checks (end_of c.args.bytes.now)) = let b = c.args.bytes.now in c.check_trailer-trailer.ensures ∙ ap (λ (t : List ℕ). first_met (trailer_checks t)) (tail b (length b - 8)) in
-    let f = c.before in
-    let t = f.before.before in
     let b = c.args.bytes.now in
+    let t : Ok tt ≡ first_met (trailer_checks (end_of b)) = rw c.split_at.ensures.back at c.in_ok-check_trailer.ensures in
     c.check_body.ensures
-    ∙ ap (λ (distance : ℕ). first_met (body_checks (length b - 8) distance)) (sym (distance_is (end_of b) (accepts_here _ trailer c.accepted-2.ensures (ap not c.if-not-accepted-2.false))))
-    ∙ accepted_here _ _ tt trailer c.accepted-2.ensures (ap not c.if-not-accepted-2.false)
-    ∙ accepted_here _ _ tt c.check_size-size.ensures c.accepted.ensures (ap not c.if-not-accepted.false)
-
-pub overflow_sub-end : goal.overflow_sub-end
-overflow_sub-end c = omega (arith, long c)
-
-pub check_trailer-trailer-requires : goal.check_trailer-trailer-requires
-check_trailer-trailer-requires c =
-    let long : 8 ≤ length c.args.bytes.now = size_accepts _ (accepts_here _ c.check_size-size.ensures c.accepted.ensures (ap not c.if-not-accepted.false)) in
-    let h = long in simp (length-take, length-drop) (omega arith)
+    ∙ ap₂ (λ (before distance : ℕ). first_met (body_checks before distance)) c.split_at.ensures.front_len (sym (distance_is (end_of b) (accepts_here (trailer_checks (end_of b)) t)))
+    ∙ accepted_here (trailer_checks (end_of b)) (last b) t
+    ∙ accepted_here (size_checks (length b)) (rest b) c.in_ok-check_size.ensures

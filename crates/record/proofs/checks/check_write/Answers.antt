@@ -1,13 +1,12 @@
 -- `check_write` meets its contract: group after group, the first that refuses decides.
-use mathlib.Core.Path.{ap, ◌∙◌}
-use mathlib.Core.Bool.{not}
+use mathlib.Core.Path.{◌∙◌}
 use Rattle.outcome.proofs.Checks.{refused_here, accepted_here}
+use Rattle.record.specs.Record.{room_checks}
+use Rattle.state.specs.State.{state_checks}
 use Rattle.record.proofs.checks.check_write.Goals as goal
 
-pub returns-then-not-accepted : goal.returns-then-not-accepted
-returns-then-not-accepted c =
-    refused_here _ _ tt c.check_room-length.ensures c.accepted.ensures (ap not c.if-not-accepted.true)
+pub returns-in_err-check_room : goal.returns-in_err-check_room
+returns-in_err-check_room c = refused_here (room_checks c.args.room) (state_checks c.args.state) c.in_err-check_room.ensures c.from_residual.ensures.1
 
 pub returns : goal.returns
-returns c =
-    c.check_state.ensures ∙ accepted_here _ _ tt c.check_room-length.ensures c.accepted.ensures (ap not c.if-not-accepted.false)
+returns c = c.check_state.ensures ∙ accepted_here (room_checks c.args.room) (state_checks c.args.state) c.in_ok-check_room.ensures

@@ -1,14 +1,12 @@
--- `replay::rows_same` meets its contract: each row is compared with its stretch, and the four stretches are all the bytes.
-use borrow.Author.Rules.{rules}
-use mathlib.Core.List.{[], ◌∷◌}
-use Rattle.decoder.specs.Core.{row_list}
-use Rattle.lists.proofs.Parts.{Counted}
-use Rattle.replay.proofs.Comparisons.{tells_parts, tells_four}
+-- `replay::rows_same` meets its contract: std's `==` decides whether two arrays of arrays of numbers are the same.
+use mathlib.Core.Path.{sym, ◌∙◌}
+use Rattle.std.specs.Cmp.Rules.{signed_items}
+use Rattle.std.proofs.lemmas.Slice.Eq.{slice_eq-Decides}
 use Rattle.replay.proofs.compare.rows_same.Goals as goal
 
 pub returns : goal.returns
 returns c =
-    -- the lengths of the rows come with their type
-    let counted : Counted (11 ∷ 11 ∷ 11 ∷ 11 ∷ []) (row_list c.args.rows) = search rules in
-    tells_parts c.args.b.now (11 ∷ 11 ∷ 11 ∷ 11 ∷ []) (row_list c.args.rows) c.requires counted
-    (tells_four c.row_same-one.ensures c.row_same-two.ensures c.row_same-three.ensures c.row_same-four.ensures)
+    let x = c.listed.ensures in
+    let y = c.listed-2.ensures in
+    let d = slice_eq-Decides signed_items c.listed.result c.listed-2.result c.eq.result c.eq.ensures in
+    (λ t. sym x ∙ d.0 t ∙ y, λ e. d.1 (x ∙ e ∙ sym y))

@@ -1,26 +1,32 @@
--- `synthesis::accumulated` meets its contract: before tap k the sum is the clamped one of the taps so far.
-use Prim.Native.Nat.{◌-◌}
+-- `synthesis::accumulated` meets its contract: after k taps the sum is the clamped one of k taps.
 use borrow.Author.Rules.{rules}
-use native.Mathlib.Omega.{arith}
+use mathlib.Core.Path.{◌∙◌}
+use native.Mathlib.Numerals.{add-one}
+use Rattle.std.proofs.lemmas.List.{length_push}
+use denote.Ref.{Bor}
+use lib.IntN.{ℤ}
+use lib.ListN.{length}
 use mir.Syntax.{w16, w32}
 use Rattle.lists.specs.Lists.{at}
 use Rattle.lists.proofs.Signed.{back, got}
-use Rattle.synthesis.proofs.Taps.{tapped_none, tapped_more, tapped_done, ago_take}
+use Rattle.synthesis.specs.Synthesis.{acc}
+use Rattle.synthesis.proofs.Pairs.{tap_turn, tap_end}
 use Rattle.synthesis.proofs.clamped.accumulated.Goals as goal
 
-pub loop-k-init : goal.loop-k-init
-loop-k-init c = (search rules, (search rules, tapped_none (got w32 c.l_mult-s.type_inv (rw (back w16 {z = at c.args.a.now 0} c.l_mult-arg-1.given) at c.l_mult-s.ensures))))
+pub loop-c-init : goal.loop-c-init
+unfolding acc
+loop-c-init c = got w32 c.l_mult-s.type_inv (rw (back w16 {z = at c.args.a.now 0} c.l_mult-arg-1.given) at c.l_mult-s.ensures)
 
-pub loop-k-preserved : goal.loop-k-preserved
-loop-k-preserved c =
-    let k = c.loop-k.k in (
-      search rules,
-      (
-        search rules,
-        tapped_more c.loop-k.invariant.1.1 (search rules) (ago_take c.args.at c.args.buf.now k (omega (arith, c.requires)) (search rules) (search rules))
-            (got w32 c.l_msu-s.type_inv (rw (back w16 {z = at c.args.a.now k} c.l_msu-arg-1.given, back w16 {z = at c.args.buf.now (c.args.at - k)} c.l_msu-arg-in-loop-k-1.given) at c.l_msu-s.ensures)),
-      ),
-    )
+pub loop-c-preserved : goal.loop-c-preserved
+unfolding acc
+loop-c-preserved c =
+    let l = c.loop-c in
+    let p : Bor ℤ × Bor ℤ = (c.in-Some.c, c.in-Some.v) in
+    let t = tap_turn c.args.a.now c.args.y.now (search rules) (search rules) c.into_iter-c-iterator.result (cc) (cc) l.yielded l.c-iterator c.next.new.self l.yielded_by p c.in-Some.is c.next.ensures.steps in
+    rw (length_push l.yielded p, add-one (length l.yielded)) (got w32 c.l_msu-s.type_inv (c.l_msu-s.ensures ∙ rw (back w16 c.l_msu-arg-1.given, back w16 c.l_msu-arg-in-loop-c-1.given, t.coefficient, t.sample, l.invariant)))
 
 pub returns : goal.returns
-returns c = rw (back w16 c.ranges.x.sfits) at (tapped_done c.loop-k.invariant.1.1 10 (search rules))
+returns c =
+    let l = c.loop-c in
+    let n = tap_end c.args.a.now c.args.y.now (search rules) (search rules) c.into_iter-c-iterator.result (cc) (cc) l.yielded l.c-iterator c.next.new.self l.yielded_by c.in-None.is c.next.ensures.steps in
+    rw (back w16 c.ranges.x.sfits, n) at l.invariant

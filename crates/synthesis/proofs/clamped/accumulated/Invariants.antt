@@ -1,11 +1,8 @@
--- `synthesis::accumulated` meets its contract: before tap k the sum is the clamped one of the taps so far.
-use Prim.Native.Nat.{◌≤◌, ◌-◌}
-use lib.ListN.{take}
-use Rattle.synthesis.proofs.Taps.{Tapped}
+-- `synthesis::accumulated` meets its contract: after k taps the sum is the clamped one of k taps.
+use mathlib.Core.Path.{◌≡◌}
+use lib.ListN.{length}
+use Rattle.synthesis.specs.Synthesis.{acc}
 use Rattle.synthesis.proofs.clamped.accumulated.Given as goal
 
-abbrev pub invariant-loop-k : goal.invariant-loop-k
-invariant-loop-k l = (1 ≤ l.k) × ((l.k ≤ 11) × Tapped l.a l.x (take l.at l.buf) l.s l.k)
-
-abbrev pub decreases-loop-k : goal.decreases-loop-k
-decreases-loop-k l = 11 - l.k
+abbrev pub invariant-loop-c : goal.invariant-loop-c
+invariant-loop-c l = l.s ≡ acc l.fn.a l.fn.x l.fn.y (length l.yielded)

@@ -11,4 +11,4 @@ returns c =
     let a = c.args in
     let f = c.first_samples-samples in
     let e : f.result ≡ samples 10 a.coefficients a.excitation a.history = f.ensures ∙ first_samples_all 40 10 a.coefficients a.excitation a.history (search rules) in
-    rw (c.newest-last.ensures, e)
+    rw (c.newest-history.ensures, e)

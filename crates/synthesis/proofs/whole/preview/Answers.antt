@@ -1,21 +1,48 @@
--- `synthesis::preview` meets its contract: the place is that of the first pass, and the samples are its own without the history before them.
-use Prim.Native.Nat.{◌-◌}
+-- `synthesis::preview` meets its contract: n samples are fed, and none of their numbers lies outside.
+use Prim.Native.Nat.{◌+◌, ◌≤◌}
 use borrow.Author.Rules.{rules}
-use mathlib.Core.Path.{◌≡◌, ap, ◌∙◌}
-use lib.IntN.{pos}
-use lib.ListN.{length, take, drop, replicate}
-use Rattle.synthesis.specs.Synthesis.{sample, first_samples, previewed}
-use Rattle.synthesis.proofs.Passes.{without_history}
+use mathlib.Core.Path.{◌≡◌, refl}
+use native.Mathlib.Omega.{arith}
+use lib.ListN.{length}
+use mir.Syntax.{w16}
+use mir.Val.{SFits}
+use mir.Facts.{to_z-of_z}
+use Rattle.lists.specs.Lists.{at}
+use Rattle.lists.proofs.Signed.{back}
+use Rattle.synthesis.specs.Synthesis.{previewed}
+use Rattle.synthesis.proofs.Flags.{true_by}
+use Rattle.synthesis.proofs.Windows.{unheld_window, sample_window}
+use Rattle.synthesis.proofs.Passes.{feeding_none, feeding_given, passing_none, passing_more, passing_left, passing_done}
 use Rattle.synthesis.proofs.whole.preview.Goals as goal
+
+pub loop-n-init : goal.loop-n-init
+loop-n-init c = passing_none (feeding_none (search rules) (search rules) (search rules) c.padded-buf.ensures)
+
+pub returns-in_default : goal.returns-in_default
+unfolding previewed
+returns-in_default c =
+    let a = c.args.coefficients in
+    let n = c.loop-n.n in
+    let x = at c.args.excitation n in
+    let b = c.loop-n.buf in
+    let l : n + 10 ≤ length b = omega (arith, c.loop-n.invariant.run.room) in
+    let e = true_by _ (rw (c.new-row.ensures, back w16 {z = x} c.sample-arg-1.given, c.window.ensures, unheld_window a x b n l) at c.in_default.ensures) in
+    rw (c.stretch.ensures, ← passing_left c.loop-n.invariant (search rules) e) (rw (feeding_given a c.loop-n.invariant.run (search rules)))
+
+pub loop-n-preserved : goal.loop-n-preserved
+loop-n-preserved c =
+    let a = c.args.coefficients in
+    let n = c.loop-n.n in
+    let x = at c.args.excitation n in
+    let b = c.loop-n.buf in
+    let l : n + 10 ≤ length b = omega (arith, c.loop-n.invariant.run.room) in
+    let y : SFits w16 c.in-Some.y = search rules in
+    let e = rw (c.new-row.ensures, back w16 {z = x} c.sample-arg-1.given, c.window.ensures, unheld_window a x b n l, sample_window a x b n l) at c.in-Some.ensures in
+    rw (to_z-of_z y) (passing_more c.loop-n.invariant (search rules) e.0 e.1)
 
 pub returns : goal.returns
 unfolding previewed
 returns c =
-    let f = c.first_pass-p in
-    let n = f.result.place in
-    let a = c.args.coefficients in
-    let x = c.args.excitation in
-    let h = c.args.history in
-    let l : length x ≡ 40 = search rules in
-    let s : c.after_history-samples.result ≡ first_samples n 10 a x h = c.after_history-samples.ensures ∙ ap (drop 10) f.ensures.1 ∙ rw l (without_history (sample 10 a) (take n x) h (replicate (40 - n) (pos 0)) (search rules)) in
-    rw (s, f.ensures.0)
+    let n : c.loop-n.n ≡ 40 = omega (arith, c.loop-n.auto.n-end) in
+    let r = rw n at c.loop-n.invariant in
+    rw (c.stretch-2.ensures, ← passing_done r refl) (rw (feeding_given c.args.coefficients r.run (search rules)))

@@ -1,23 +1,24 @@
 -- `synthesis::product` meets its contract: the product fits 32 bits, and y is at most 32768 in size.
-use mathlib.Core.Path.{refl}
-use mir.Facts.{to_z-of_z}
+use mathlib.Core.Path.{◌≡◌, refl}
 use native.Mathlib.Nat.{le_refl}
 use lib.IntN.{nat_abs}
-use Rattle.basicop.proofs.Calls.{rules_ℤ}
-use Rattle.basicop.proofs.Range.{mul_bound, nat_abs_in}
+use mir.Syntax.{w32}
+use mir.Val.{to_z, of_z}
+use mir.Facts.{to_z-of_z}
+use Rattle.basicop.proofs.Range.{mul_bound, nat_abs_in, sfits_mul}
+use Rattle.lists.proofs.Signed.{got}
 use Rattle.synthesis.proofs.whole.product.Goals as goal
+use Rattle.synthesis.proofs.whole.product.Goals.{After-from-2}
 
-pub overflow_cast-result : goal.overflow_cast-result
-overflow_cast-result c = search rules_ℤ
+wide_a : (c : After-from-2) → to_z w32 (of_z w32 c.from.result) ≡ c.args.a
+wide_a c = got w32 c.from.type_inv (rw (to_z-of_z c.ranges.a) at c.from.ensures)
 
-pub overflow_cast-result-2 : goal.overflow_cast-result-2
-overflow_cast-result-2 c = search rules_ℤ
+wide_y : (c : After-from-2) → to_z w32 (of_z w32 c.from-2.result) ≡ c.args.y
+wide_y c = got w32 c.from-2.type_inv (rw (to_z-of_z c.ranges.y) at c.from-2.ensures)
 
 pub overflow_mul-result : goal.overflow_mul-result
-overflow_mul-result c = search rules_ℤ
+overflow_mul-result c = rw (wide_a c, wide_y c) (sfits_mul w32 c.args.a c.args.y 32768 32768 c.ranges.a.sfits c.ranges.y.sfits tt)
 
 pub returns : goal.returns
 returns c =
-    let a = c.args.a in
-    let y = c.args.y in
-    rw (to_z-of_z (overflow_mul-result c), to_z-of_z (overflow_cast-result c), to_z-of_z (overflow_cast-result-2 c), to_z-of_z c.ranges.a, to_z-of_z c.ranges.y) (refl, mul_bound a y (le_refl (nat_abs a)) (nat_abs_in y c.ranges.y.sfits))
+    rw (to_z-of_z (overflow_mul-result c), wide_a c, wide_y c) (refl, mul_bound c.args.a c.args.y (le_refl (nat_abs c.args.a)) (nat_abs_in c.args.y c.ranges.y.sfits))

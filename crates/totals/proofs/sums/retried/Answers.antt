@@ -1,14 +1,11 @@
--- `totals::retried` meets its contract: there are four flags, and each counts one where it is set.
-use mathlib.Core.Path.{ap, ◌∙◌}
-use mathlib.Core.Bool.{false}
-use native.Mathlib.Omega.{arith}
-use borrow.Author.Rules.{rules}
-use Rattle.lists.specs.Lists.{count}
-use Rattle.lists.proofs.Entries.{four_entries}
-use Rattle.shift_report.specs.Totals.{retried_in}
+-- `totals::retried` meets its contract: the flags that are set are counted.
+use Rattle.std.proofs.Common.{◌≡◌, ◌∙◌, Bool, arith}
+use Rattle.std.specs.List.{count_by}
+use Rattle.std.proofs.lemmas.Grind.{common_steps}
+use Rattle.totals.proofs.Adding.{retried_counted}
 use Rattle.totals.proofs.sums.retried.Goals as goal
 
 pub returns : goal.returns
-unfolding retried_in
 returns c =
-    omega (arith, c.one_if-4.ensures.one, c.one_if-3.ensures.one, c.one_if-2.ensures.one, c.one_if.ensures.one, ap count (four_entries false c.flags-flags.result (search rules) ∙ c.flags-flags.ensures))
+    let counted : c.count.result ≡ count_by (λ (flag : Bool). flag) c.flags-flags.result = grind (arith, common_steps) in
+    counted ∙ retried_counted c.args.places c.flags-flags.result c.flags-flags.ensures

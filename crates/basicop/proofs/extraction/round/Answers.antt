@@ -1,6 +1,0 @@
--- `round` meets its contract: the calls are the definition's.
-use Rattle.basicop.proofs.Calls.{callsℤ}
-use Rattle.basicop.proofs.extraction.round.Goals as goal
-
-pub returns : goal.returns
-returns c = search callsℤ depth 20

@@ -1,5 +1,0 @@
--- The number falls.
-use Rattle.lines.proofs.fields.+put_digits.Given as goal
-
-abbrev pub decreases-put_digits : goal.decreases-put_digits
-decreases-put_digits l = l.n

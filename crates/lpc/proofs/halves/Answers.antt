@@ -1,6 +1,0 @@
--- `halves` meets its contract: the calls are the definition's.
-use Rattle.basicop.proofs.Calls.{callsℤ}
-use Rattle.lpc.proofs.halves.Goals as goal
-
-pub returns : goal.returns
-returns c = search callsℤ depth 20

@@ -1,0 +1,28 @@
+// A row of the filter, with its weight tested once.
+ghost use Rattle.std.specs.Prelude.{◌≡◌, ltb};
+ghost use Rattle.synthesis.specs.Inner.{weight};
+
+// A row, a0 to a10 (Q12). It is light where its weight, |a0| + .. + |a10|, is below 32768: then no number up to a sum can leave 32 bits.
+#[derive(Clone, Copy)]
+pub struct Row {
+    pub coefficients: [i16; 11],
+    pub light: bool,
+    pub ghost weighed: { light ≡ ltb (weight coefficients) 32768 },
+}
+
+impl Row {
+    // The row of these coefficients.
+    pub fn new(coefficients: [i16; 11]) -> Row
+        ensures { result.coefficients ≡ coefficients }
+    {
+        let mut weight: u32 = 0;
+        for a in coefficients {
+            weight += u32::from(a.unsigned_abs());
+        }
+        let light = weight < 32768;
+        Row {
+            coefficients,
+            light,
+        }
+    }
+}
