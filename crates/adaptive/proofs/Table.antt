@@ -1,18 +1,17 @@
 -- The interpolation table: its length, and its rule by one test of every entry that antt computes. Assumes nothing.
 use mathlib.Core.Path.{◌≡◌, refl}
-use mathlib.Core.Bool.{Bool, not, ◌||◌}
-use Prim.Native.Nat.{ℕ, ◌+◌, ◌%◌, ◌<◌, ◌≤◌}
+use mathlib.Core.Bool.{Bool, not, ◌&&◌, ◌||◌}
+use Prim.Native.Nat.{ℕ, ◌%◌, ◌<◌, ◌≤◌}
 use borrow.Author.Tests.{eq-eqb, lt-leb}
 use lib.Dec.{T, leb, eqb, leb→le}
 use native.Mathlib.Omega.{arith}
-use lib.IntN.{ℤ, pos, negsuc, nat_abs, ◌-ℤ◌}
+use lib.IntN.{ℤ, pos, negsuc, nat_abs}
 use lib.ListN.{length}
 use mir.Syntax.{w16}
 use mir.Val.{SFits}
 use Rattle.lists.specs.Lists.{at, eq_z}
-use Rattle.lists.proofs.Table.{both, both_left, both_right, at_each, eq_z→eq}
-use Rattle.basicop.specs.Inner.{sizes}
-use Rattle.adaptive.specs.Predict.{inter6, coefficient}
+use Rattle.lists.proofs.Table.{both_pass, at_each, eq_z→eq}
+use Rattle.adaptive.specs.Predict.{inter6}
 
 pub inter6_length : length inter6 ≡ 61
 unfolding inter6
@@ -26,7 +25,7 @@ crosses : ℕ → ℤ → Bool
 crosses k x = (leb k 0 || not (eqb (k % 20) 0)) || eq_z x (pos 0)
 
 ruled : ℕ → ℤ → Bool
-ruled k x = both (small x) (crosses k x)
+ruled k x = small x && crosses k x
 
 at_ruled : (k : ℕ) → k < 61 → T (ruled k (at inter6 k))
 unfolding inter6 ruled small crosses
@@ -34,7 +33,7 @@ at_ruled k h = at_each ruled inter6 tt k h
 
 pub inter6_bound : (k : ℕ) → k < 61 → nat_abs (at inter6 k) ≤ 29443
 unfolding ruled small
-inter6_bound k h = leb→le (nat_abs (at inter6 k)) 29443 (both_left (small (at inter6 k)) (crosses k (at inter6 k)) (at_ruled k h))
+inter6_bound k h = leb→le (nat_abs (at inter6 k)) 29443 (both_pass (small (at inter6 k)) (crosses k (at inter6 k)) (at_ruled k h)).0
 
 sized : (z : ℤ) → nat_abs z ≤ 29443 → SFits w16 z
 sized (pos n) h = record { sfits = omega (arith, h) }
@@ -47,20 +46,4 @@ pub inter6_zero : (k : ℕ) → 0 < k → k < 61 → k % 20 ≡ 0 → at inter6 
 unfolding ruled crosses
 inter6_zero k p h e =
     eq_z→eq (at inter6 k) (pos 0)
-    (rw (lt-leb k 0 p, eq-eqb (k % 20) 0 e) at (both_right (small (at inter6 k)) (crosses k (at inter6 k)) (at_ruled k h)))
-
--- ---- the twenty coefficients of phase f: the sum of their sizes
-abbrev pub weight : ℕ → ℕ
-weight f = sizes (coefficient (pos f)) 10 + sizes (coefficient (pos 6 -ℤ pos f)) 10
-
-pub weight_0 : weight 0 ≡ 53535
-unfolding inter6 sizes
-weight_0 = refl
-
-pub weight_2 : weight 2 ≡ 59398
-unfolding inter6 sizes
-weight_2 = refl
-
-pub weight_4 : weight 4 ≡ 59398
-unfolding inter6 sizes
-weight_4 = refl
+    (rw (lt-leb k 0 p, eq-eqb (k % 20) 0 e) at ((both_pass (small (at inter6 k)) (crosses k (at inter6 k)) (at_ruled k h)).1))

@@ -1,13 +1,12 @@
 -- The taps of a phase, in the order of the samples. Assumes nothing.
 use mathlib.Core.Path.{◌≡◌, refl}
 use mathlib.Core.Bool.{Bool}
-use mathlib.Core.List.{List}
-use Prim.Native.Nat.{ℕ, ◌+◌, ◌-◌, ◌*◌, ◌<◌, ◌≤◌}
+use mathlib.Core.List.{List, []}
+use Prim.Native.Nat.{ℕ, ◌+◌, ◌-◌, ◌*◌, ◌/◌, ◌<◌, ◌≤◌}
 use borrow.Author.Tests.{lt-ltb, le-ltb}
 use lib.Dec.{T, lit<}
 use lib.IntN.{ℤ, pos, ◌-ℤ◌}
-use lib.ListN.{length, take, drop}
-use Rattle.lists.proofs.Entries.{length_tab}
+use lib.ListN.{get_or}
 use Rattle.lists.specs.Lists.{at, eq_z, tab}
 use Rattle.lists.proofs.Table.{all_below, below_each, eq_z→eq}
 use Rattle.basicop.specs.Inner.{sizes}
@@ -31,7 +30,6 @@ pub record Row (taps : List ℤ) (f : ℤ) : Type 0 where
   pub left : (i : ℕ) → i < 10 → left_of taps i ≡ coefficient f i
   pub right : (i : ℕ) → i < 10 → right_of taps i ≡ coefficient (pos 6 -ℤ f) i
   pub light : Light taps
-  pub twenty : length taps ≡ 20
 
 -- by tests that antt computes
 left_same : ℕ → ℕ → Bool
@@ -47,7 +45,6 @@ row_by f l r h =
       left = λ i k. eq_z→eq _ _ (below_each (left_same f) 10 l i k);
       right = λ i k. eq_z→eq _ _ (below_each (right_same f) 10 r i k);
       light = h;
-      twenty = length_tab (tap f) 20;
     }
 
 row_of : (q : Fraction) → Row (phase_taps (phase_of q)) (pos (phase_of q))
@@ -57,13 +54,13 @@ row_of Zero = row_by 0 tt tt (lit< tt)
 row_of PlusThird = row_by 4 tt tt (lit< tt)
 
 -- the twenty of a phase, where they stand among all
-cut : (q : Fraction) → take (10 * phase_of q + 20 - 10 * phase_of q) (drop (10 * phase_of q) all_taps) ≡ phase_taps (phase_of q)
-unfolding all_taps tab inter6
-cut MinusThird = refl
-cut Zero = refl
-cut PlusThird = refl
+row_at : (q : Fraction) → get_or all_taps (phase_of q / 2) [] ≡ phase_taps (phase_of q)
+unfolding all_taps
+row_at MinusThird = refl
+row_at Zero = refl
+row_at PlusThird = refl
 
-pub lag_row : (l : PitchLag) (f : ℕ) (all : List ℤ) → pos f ≡ phase (lag_of l) → all ≡ all_taps → Row (take (10 * f + 20 - 10 * f) (drop (10 * f) all)) (phase (lag_of l))
+pub lag_row : (l : PitchLag) (f : ℕ) (all : List (List ℤ)) → pos f ≡ phase (lag_of l) → all ≡ all_taps → Row (get_or all (f / 2) []) (phase (lag_of l))
 lag_row l f all e t =
     let k : f ≡ phase_of l.fraction = cc (phase_is l) in
-    rw (t, k, cut l.fraction, phase_is l) (row_of l.fraction)
+    rw (t, k, row_at l.fraction, phase_is l) (row_of l.fraction)

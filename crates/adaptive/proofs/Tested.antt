@@ -11,7 +11,8 @@ use lib.Seq.{take-suc-set, get_or-take}
 use lib.Signed.{◌≤ℤ◌, lt_z}
 use Rattle.lists.specs.Lists.{minus, at}
 use Rattle.basicop.proofs.Ints.{arith_ℤ}
-use Rattle.basicop.proofs.Tests.{less_no, or_left, or_right, and_left, and_right}
+use Rattle.std.proofs.lemmas.Bool.{and_parts, or_parts}
+use Rattle.basicop.proofs.Tests.{less_no}
 use Rattle.adaptive.specs.Inner.{limit, large, quiet, Quiet}
 
 pub large_no : (x : ℤ) → large x ≡ false → nat_abs x ≤ limit
@@ -19,7 +20,8 @@ unfolding large
 large_no x e =
     let low = lt_z x (minus limit) in
     let high = lt_z (pos (limit - 1)) x in
-    go x (less_no (or_left low high e)) (less_no (or_right low high e))
+    let n = or_parts low high e in
+    go x (less_no n.0) (less_no n.1)
   where
     go : (z : ℤ) → minus limit ≤ℤ z → z ≤ℤ pos (limit - 1) → nat_abs z ≤ limit
     go (pos n) l h = omega arith_ℤ
@@ -31,7 +33,8 @@ unfolding large
 none_large b [] e = (e, λ i. refl)
 none_large b (x ∷ xs) e =
     let r = none_large (b && not (large x)) xs e in
-    (and_left b (not (large x)) r.0, each (not-true (large x) (and_right b (not (large x)) r.0)) r.1)
+    let p = and_parts b (not (large x)) r.0 in
+    (p.0, each (not-true (large x) p.1) r.1)
   where
     each : large x ≡ false → ((i : ℕ) → large (at xs i) ≡ false) → (i : ℕ) → large (at (x ∷ xs) i) ≡ false
     each e f zero = e

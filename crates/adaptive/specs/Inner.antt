@@ -1,7 +1,7 @@
 -- For inner functions: what the code's plain sums rest on: taps in the order of the samples, the sizes of a phase's taps, and which numbers are large.
 -- The taps of a light phase over numbers that are not large come to at most 2 × 16384 × 65535, which is below 2 ^ 31: no L_mac clamps.
 use Rattle.std.specs.Prelude.{◌≡◌, Bool, true, false, cond, not, ◌&&◌, ◌||◌, ℕ, ◌+◌, ◌-◌, ◌<◌, ltb, ℤ, pos, ◌-ℤ◌}
-use mathlib.Core.List.{List, ◌++◌, foldl}
+use mathlib.Core.List.{List, [], ◌∷◌, foldl}
 use Rattle.std.specs.Int.Signed.{lt_z}
 use Rattle.lists.specs.Lists.{minus, at, tab}
 use Rattle.basicop.specs.Inner.{sizes}
@@ -15,9 +15,9 @@ tap f j = cond (ltb j 10) (coefficient (pos f) (9 - j)) (coefficient (pos 6 -ℤ
 abbrev pub phase_taps : ℕ → List ℤ
 phase_taps f = tab (tap f) 20
 
--- those of the phases 0, 2 and 4: those of phase f start at 10 f
-unfoldable pub all_taps : List ℤ
-all_taps = (phase_taps 0 ++ phase_taps 2) ++ phase_taps 4
+-- those of the phases 0, 2 and 4: those of phase f are row f / 2
+unfoldable pub all_taps : List (List ℤ)
+all_taps = phase_taps 0 ∷ phase_taps 2 ∷ phase_taps 4 ∷ []
 
 -- coefficient i of each side, of twenty taps
 abbrev pub left_of : List ℤ → ℕ → ℤ

@@ -1,7 +1,7 @@
 // The adaptive codebook: Pred_lt_3or6 of TS 26.073, in thirds.
 #![tactic(auto)]
 
-ghost use Rattle.std.specs.Prelude.{◌≡◌, true, ◌+◌, ◌<◌, ◌≤◌, length, pos};
+ghost use Rattle.std.specs.Prelude.{◌≡◌, true, ◌+◌, ◌<◌, ◌≤◌, pos};
 ghost use Rattle.pitch.specs.Lag.{lag_of};
 ghost use Rattle.adaptive.specs.Predict.{interpolated, extended, predicted};
 ghost use Rattle.adaptive.specs.Inner.{left_of, right_of, Light, large, quiet, Quiet};
@@ -27,8 +27,8 @@ fn quiet(history: [i16; 154]) -> bool
 
 // One sample: the ten of `x` at `first` and before it by the left taps, the ten after it by the right ones.
 // Where none of them is large no step can clamp (`plain`).
-fn sample(x: &[i16; 194], first: usize, taps: &[i16], plain: bool) -> i16
-    requires places { (9 ≤ first) × ((first + 10 < 194) × (length taps.now ≡ 20)) }
+fn sample(x: &[i16; 194], first: usize, taps: &[i16; 20], plain: bool) -> i16
+    requires places { (9 ≤ first) × (first + 10 < 194) }
     requires quiet { Light taps.now × (plain ≡ true → Quiet (first + 11) x.now) }
     ensures { result ≡ interpolated x.now (pos first) (left_of taps.now) (right_of taps.now) }
 {
@@ -45,9 +45,8 @@ fn extended(history: [i16; 154], lag: PitchLag) -> [i16; 194]
     requires { (19 ≤ lag.samples) × (lag.samples ≤ 144) }
     ensures { result ≡ extended history (lag_of lag) }
 {
-    let all = all_taps();
-    let from = 10 * phase_of(lag);
-    let taps = &all[from..from + 20];
+    let rows = all_taps();
+    let taps = &rows[phase_of(lag) / 2];
     let start = start_of(lag);
     let mut buffer: [i16; 194] = copy::padded(&history);
     let mut plain = quiet(history);

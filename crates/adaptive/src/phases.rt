@@ -59,10 +59,9 @@ fn phase_taps(phase: usize) -> [i16; 20]
     array::from_fn(|j| tap(phase, j))
 }
 
-// Those of the phases 0, 2 and 4, one after another: constants, which the compiler works out.
-pub fn all_taps() -> [i16; 60]
+// Those of the phases 0, 2 and 4: constants, which the compiler works out.
+pub fn all_taps() -> [[i16; 20]; 3]
     ensures { result ≡ all_taps }
 {
-    let two: [i16; 40] = copy::joined(&phase_taps(0), &phase_taps(2));
-    copy::joined(&two, &phase_taps(4))
+    [phase_taps(0), phase_taps(2), phase_taps(4)]
 }

@@ -13,7 +13,7 @@ use borrow.Author.Tests.{ltb-true}
 use Rattle.lists.specs.Lists.{at}
 use Rattle.basicop.specs.Words.{Words}
 use Rattle.basicop.proofs.Words.{zero_fits}
-use Rattle.basicop.proofs.Tests.{and_left, and_right}
+use Rattle.std.proofs.lemmas.Bool.{and_parts}
 use Rattle.state.specs.State.{WellFormed}
 use Rattle.state.specs.Layout.{core_of, post_of, state_of}
 use Rattle.coding.specs.Bytes.{Bytes}
@@ -50,8 +50,8 @@ all_fit (x ∷ xs) = ltb (mag x) 32768 && all_fit xs
 
 pub fits_by : (xs : List ℤ) → all_fit xs ≡ true → (i : ℕ) → SFits w16 (at xs i)
 fits_by [] e i = zero_fits
-fits_by (x ∷ xs) e zero = record { sfits = ltb-true (mag x) 32768 (and_left (ltb (mag x) 32768) (all_fit xs) e) }
-fits_by (x ∷ xs) e (suc i) = fits_by xs (and_right (ltb (mag x) 32768) (all_fit xs) e) i
+fits_by (x ∷ xs) e zero = record { sfits = ltb-true (mag x) 32768 (and_parts (ltb (mag x) 32768) (all_fit xs) e).0 }
+fits_by (x ∷ xs) e (suc i) = fits_by xs (and_parts (ltb (mag x) 32768) (all_fit xs) e).1 i
 
 -- every number is below 256, as a test
 abbrev pub all_bytes : List ℕ → Bool
@@ -60,5 +60,5 @@ all_bytes (x ∷ b) = ltb x 256 && all_bytes b
 
 pub bytes_by : (b : List ℕ) → all_bytes b ≡ true → Bytes b
 bytes_by [] e i = lit< tt
-bytes_by (x ∷ b) e zero = ltb-true x 256 (and_left (ltb x 256) (all_bytes b) e)
-bytes_by (x ∷ b) e (suc i) = bytes_by b (and_right (ltb x 256) (all_bytes b) e) i
+bytes_by (x ∷ b) e zero = ltb-true x 256 (and_parts (ltb x 256) (all_bytes b) e).0
+bytes_by (x ∷ b) e (suc i) = bytes_by b (and_parts (ltb x 256) (all_bytes b) e).1 i

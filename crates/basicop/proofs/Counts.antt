@@ -12,7 +12,8 @@ use lib.Signed.{◌≤ℤ◌, ◌<ℤ◌, le_z, shr_z}
 use mir.Syntax.{Width, w16, w32}
 use mir.Val.{SFits, hbits}
 use Rattle.basicop.specs.Ops.{clamp, asr, mod_z, shl, shr, l_shl, l_shr, l_shr_r}
-use Rattle.basicop.proofs.Ints.{arith_ℤ, sfits_by, add_is, sub_ℤ_is}
+use borrow.Author.Differences.{sum_is_lem}
+use Rattle.basicop.proofs.Ints.{arith_ℤ, sfits_by, sub_ℤ_is}
 use Rattle.basicop.proofs.Shift as S
 use Rattle.basicop.proofs.Shift.{asr_zero, asr_same, asr_asr, mod_z_lt}
 use Rattle.basicop.proofs.Clamp.{clamp_id, clamp_clamp}
@@ -66,7 +67,7 @@ l_shr_r_far x (negsuc n) h = absurd h.le
 -- by k, from 1 to 31: the bit that is added is the one by which x >> (k - 1) differs from twice x >> k
 halves_up : (y : ℤ) → y -ℤ asr y 1 ≡ asr y 1 +ℤ pos (mod_z y 2)
 unfolding asr
-halves_up y = omega (arith_ℤ, sub_ℤ_is y (shr_z y 2), add_is (shr_z y 2) (pos (mod_z y 2)), S.shr_is y 2 (lit< tt))
+halves_up y = omega (arith_ℤ, sub_ℤ_is y (shr_z y 2), sum_is_lem (shr_z y 2) (pos (mod_z y 2)), S.shr_is y 2 (lit< tt))
 
 halves_fit : (w : Width) (y : ℤ) → SFits w y → SFits w (y -ℤ asr y 1)
 unfolding asr

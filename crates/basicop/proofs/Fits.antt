@@ -3,27 +3,13 @@ use Prim.Native.Nat.{suc}
 use lib.IntN.{ℤ, pos, negsuc}
 use mir.Syntax.{w16, w32}
 use mir.Val.{SFits}
-use Rattle.basicop.specs.Ops.{add, sub, mult, shl, l_add, l_sub, l_mult, l_shl, extract_h, extract_l, round}
+use Rattle.basicop.specs.Ops.{add, l_add, l_sub, l_mult, l_shl, extract_h, round}
 use Rattle.basicop.proofs.Clamp.{clamp_fits}
 use Rattle.basicop.proofs.Shift.{asr_fits, asr_same}
-use Rattle.basicop.proofs.Wrap.{wrap_fits}
 
 pub add_fits : (a b : ℤ) → SFits w16 (add a b)
 unfolding add
 add_fits a b = clamp_fits w16 _
-
-pub sub_fits : (a b : ℤ) → SFits w16 (sub a b)
-unfolding sub
-sub_fits a b = clamp_fits w16 _
-
-pub mult_fits : (a b : ℤ) → SFits w16 (mult a b)
-unfolding mult
-mult_fits a b = clamp_fits w16 _
-
-pub shl_fits : (x n : ℤ) → SFits w16 x → SFits w16 (shl x n)
-unfolding shl
-shl_fits x (pos n) f = clamp_fits w16 _
-shl_fits x (negsuc n) f = asr_same w16 x (suc n) f
 
 pub l_add_fits : (x y : ℤ) → SFits w32 (l_add x y)
 unfolding l_add
@@ -44,9 +30,6 @@ l_shl_fits x (negsuc n) f = asr_same w32 x (suc n) f
 
 pub extract_h_fits : (x : ℤ) → SFits w32 x → SFits w16 (extract_h x)
 extract_h_fits x f = asr_fits w32 w16 x 16 f tt
-
-pub extract_l_fits : (x : ℤ) → SFits w16 (extract_l x)
-extract_l_fits x = wrap_fits w16 x
 
 pub round_fits : (x : ℤ) → SFits w16 (round x)
 round_fits x = extract_h_fits _ (l_add_fits x (pos 32768))

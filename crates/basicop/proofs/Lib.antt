@@ -1,4 +1,4 @@
--- Ints: ℤ by its two parts, so that `omega` reads it; the order and the ring. Range, Shift, Clamp, Wrap: what fits, for any width.
+-- Ints: ℤ by its two parts, so that `omega` reads it; the order. Range, Shift, Clamp, Wrap: what fits, for any width.
 -- Fits: what each operator gives fits its type. Words: lists of 16-bit numbers. Naturals: the operators of numbers that are not negative. Counts: shifts by a signed count. Calls: what `search` is handed where operators are called. Norm, Division, Split: norm_l, div_s, L_Extract. Tables: the way between two entries of a table. Unclamped: sums that no L_mac clamps.
 pub mod Ints
 pub mod Tests

@@ -13,7 +13,8 @@ use lib.Signed.{◌≤ℤ◌, ◌<ℤ◌}
 use mir.Syntax.{w32}
 use mir.Val.{SFits}
 use Rattle.basicop.specs.Ops.{doublings, norm_l, l_shl}
-use Rattle.basicop.proofs.Ints.{arith_ℤ, mul_is}
+use borrow.Author.Differences.{product_is}
+use Rattle.basicop.proofs.Ints.{arith_ℤ}
 use Rattle.basicop.proofs.Clamp.{clamp_id}
 
 -- n · 2 ^ k has its highest digit at 2 ^ 30
@@ -82,7 +83,7 @@ leading_from (suc n) h = (leading_is (suc n) (omega arith) h).0
 pub leading_doublings : (n : ℕ) → 0 < n → n < 2147483648 → count_leading_zeros 32 n - 1 ≡ doublings 30 n
 leading_doublings n p h = normal_one n _ _ (leading_is n p h).1 (doublings_normal n p h)
 
--- ---- norm_l of a number that is normalised: the two bounds, for x above 0 and for x below -1
+-- ---- norm_l by the doublings, and by the leading zeros
 pub norm_pos : (n : ℕ) → 0 < n → n < 2147483648 → norm_l (pos n) ≡ pos (doublings 30 n)
 unfolding norm_l
 norm_pos zero p h = absurd (lt_irrefl 0 p)
@@ -135,7 +136,7 @@ norm_below (negsuc zero) p f = absurd (lt_irrefl 0 (ltb→lt 0 0 p.lt))
 norm_below (negsuc (suc a)) p f =
     let h = doublings_normal (suc a) (omega arith) f.sfits in
     let n = doublings 30 (suc a) in
-    let z = mul_is (negsuc (suc a)) (pos (2 ^ n)) in
+    let z = product_is (negsuc (suc a)) (pos (2 ^ n)) in
     (n, refl, doublings_le 30 (suc a), omega (arith_ℤ, z, whole (suc a) n (doublings_le 30 (suc a)) h.below), omega (arith_ℤ, z, h.from, pow_pos n))
   where
     -- 2 ^ n divides 2 ^ 31, so the next multiple of it is not beyond

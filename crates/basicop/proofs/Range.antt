@@ -1,71 +1,58 @@
 -- What fits a signed width, for any width: sums, products, casts. Assumes nothing.
-use mathlib.Core.Path.{◌≡◌, refl, sym, subst}
+use mathlib.Core.Path.{◌≡◌, sym, subst}
 use Prim.Native.Nat.{ℕ, zero, suc, max, ◌+◌, ◌*◌, ◌^◌, ◌<◌, ◌≤◌}
 use native.Mathlib.Nat.{mul-le-mul, mul-le-mul_right, mul-lt-mul_of_pos_right, le_refl, lt_of_lt_of_le}
 use native.Mathlib.Omega.{arith}
 use lib.Dec.{T, leb, ltb, leb→le, ltb→lt}
 use lib.Pow.{pow_pos}
 use lib.IntN.{ℤ, pos, negsuc, neg_ℤ, nat_abs, ◌+ℤ◌, ◌-ℤ◌, ◌*ℤ◌}
-use lib.Signed.{◌≤ℤ◌, mag, non_neg, yes_non_neg, pos-nat_abs}
+use lib.Signed.{◌≤ℤ◌, mag, non_neg, yes_non_neg, pos-nat_abs, nat_abs-le}
 use mir.Syntax.{Width}
 use mir.Val.{SFits, Fits, bits, hbits, to_z, of_z}
 use mir.Facts.{to_z-of_z, to_z_pos, Fits-nat_abs}
+use Rattle.std.proofs.lemmas.Int.{unsigned_abs-mul}
 use Rattle.basicop.specs.Ops.{least, most}
-use Rattle.basicop.proofs.Ints.{up, dn, arith_ℤ, sfits_by, add_is, sub_ℤ_is}
+use borrow.Author.Differences.{up, down, sum_is_lem}
+use Rattle.basicop.proofs.Ints.{arith_ℤ, sfits_by, sub_ℤ_is}
 
 -- Each law takes a bound on `mag` of each operand, as what a need is handed has it of a parameter (`c.fits.x.sfits`) and of a result (`c.f.ok`):
 -- `search` takes the bound from there, and the last premise compares numerals.
 pub sfits_wider : (v : Width) (z : ℤ) (k : ℕ) → mag z < k → T (leb k (2 ^ hbits v)) → SFits v z
 sfits_wider v z k h t = record { sfits = lt_of_lt_of_le h (leb→le k (2 ^ hbits v) t) }
 
-mag_out : (z : ℤ) {k : ℕ} → mag z < k → max (suc (up z)) (dn z) ≤ k
+mag_out : (z : ℤ) {k : ℕ} → mag z < k → max (suc (up z)) (down z) ≤ k
 mag_out (pos n) h = omega arith
 mag_out (negsuc n) h = omega arith
 
 pub sfits_add : (v : Width) (a b : ℤ) (k l : ℕ) → mag a < k → mag b < l → T (leb (k + l) (2 ^ hbits v)) → SFits v (a +ℤ b)
-sfits_add v a b k l h j t = sfits_by (omega (arith, mag_out a h, mag_out b j, add_is a b, leb→le (k + l) (2 ^ hbits v) t))
+sfits_add v a b k l h j t = sfits_by (omega (arith, mag_out a h, mag_out b j, sum_is_lem a b, leb→le (k + l) (2 ^ hbits v) t))
 
 pub sfits_sub : (v : Width) (a b : ℤ) (k l : ℕ) → mag a < k → mag b < l → T (leb (k + l) (2 ^ hbits v)) → SFits v (a -ℤ b)
 sfits_sub v a b k l h j t = sfits_by (omega (arith, mag_out a h, mag_out b j, sub_ℤ_is a b, leb→le (k + l) (2 ^ hbits v) t))
 
 -- ---- products: the sizes multiply
-pub nat_abs_neg : (z : ℤ) → nat_abs (neg_ℤ z) ≡ nat_abs z
-nat_abs_neg (pos zero) = refl
-nat_abs_neg (pos (suc n)) = refl
-nat_abs_neg (negsuc n) = refl
-
-pub nat_abs_mul : (a b : ℤ) → nat_abs (a *ℤ b) ≡ nat_abs a * nat_abs b
-nat_abs_mul (pos a) (pos b) = refl
-nat_abs_mul (pos a) (negsuc b) = nat_abs_neg (pos (a * suc b))
-nat_abs_mul (negsuc a) (pos b) = nat_abs_neg (pos (suc a * b))
-nat_abs_mul (negsuc a) (negsuc b) = refl
-
-pub nat_abs_is : (z : ℤ) → nat_abs z ≡ up z + dn z
+pub nat_abs_is : (z : ℤ) → nat_abs z ≡ up z + down z
 nat_abs_is (pos n) = omega arith
 nat_abs_is (negsuc n) = omega arith
 
-pub nat_abs_in : (z : ℤ) {k : ℕ} → mag z < k → nat_abs z ≤ k
-nat_abs_in (pos n) h = omega arith
-nat_abs_in (negsuc n) h = h
-
 pub mul_bound : (a b : ℤ) {i j : ℕ} → nat_abs a ≤ i → nat_abs b ≤ j → nat_abs (a *ℤ b) ≤ i * j
-mul_bound a b {i} {j} h k = subst (λ (n : ℕ). n ≤ i * j) (sym (nat_abs_mul a b)) (mul-le-mul h k)
+mul_bound a b {i} {j} h k = subst (λ (n : ℕ). n ≤ i * j) (sym (unsigned_abs-mul a b)) (mul-le-mul h k)
 
 pub sfits_mul : (v : Width) (a b : ℤ) (k l : ℕ) → mag a < k → mag b < l → T (ltb (k * l) (2 ^ hbits v)) → SFits v (a *ℤ b)
 sfits_mul v a b k l h j t =
-    sfits_by (omega (arith, nat_abs_is (a *ℤ b), mul_bound a b (nat_abs_in a h) (nat_abs_in b j), ltb→lt (k * l) (2 ^ hbits v) t))
+    sfits_by (omega (arith, nat_abs_is (a *ℤ b), mul_bound a b (nat_abs-le a h) (nat_abs-le b j), ltb→lt (k * l) (2 ^ hbits v) t))
 
 pub sfits_scale : (v : Width) (m : ℕ) (a b : ℤ) (k l : ℕ) → mag a < k → mag b < l → T (ltb (m * (k * l)) (2 ^ hbits v)) → SFits v (pos m *ℤ (a *ℤ b))
 sfits_scale v m a b k l h j t =
-    sfits_by (omega (arith, nat_abs_is (pos m *ℤ (a *ℤ b)), mul_bound (pos m) (a *ℤ b) (le_refl m) (mul_bound a b (nat_abs_in a h) (nat_abs_in b j)), ltb→lt (m * (k * l)) (2 ^ hbits v) t))
+    sfits_by (omega (arith, nat_abs_is (pos m *ℤ (a *ℤ b)), mul_bound (pos m) (a *ℤ b) (le_refl m) (mul_bound a b (nat_abs-le a h) (nat_abs-le b j)), ltb→lt (m * (k * l)) (2 ^ hbits v) t))
 
 -- ---- sums and differences: no larger than both sizes together
-pub abs_by : (z : ℤ) {k : ℕ} → up z ≤ k + dn z → dn z ≤ k + up z → nat_abs z ≤ k
+pub abs_by : (z : ℤ) {k : ℕ} → up z ≤ k + down z → down z ≤ k + up z → nat_abs z ≤ k
 abs_by (pos n) h l = omega arith
 abs_by (negsuc n) h l = omega arith
 
 pub nat_abs_add : (a b : ℤ) → nat_abs (a +ℤ b) ≤ nat_abs a + nat_abs b
-nat_abs_add a b = abs_by (a +ℤ b) (omega (arith, add_is a b, nat_abs_is a, nat_abs_is b)) (omega (arith, add_is a b, nat_abs_is a, nat_abs_is b))
+nat_abs_add a b = abs_by (a +ℤ b) (omega (arith, sum_is_lem a b, nat_abs_is a, nat_abs_is b)) (omega (arith, sum_is_lem a b, nat_abs_is a, nat_abs_is b))
 
 pub nat_abs_sub : (a b : ℤ) → nat_abs (a -ℤ b) ≤ nat_abs a + nat_abs b
 nat_abs_sub a b = abs_by (a -ℤ b) (omega (arith, sub_ℤ_is a b, nat_abs_is a, nat_abs_is b)) (omega (arith, sub_ℤ_is a b, nat_abs_is a, nat_abs_is b))

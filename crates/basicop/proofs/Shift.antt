@@ -12,7 +12,8 @@ use lib.Signed.{◌≤ℤ◌, le_z, mag, shr_z}
 use mir.Syntax.{Width}
 use mir.Val.{SFits, hbits}
 use Rattle.basicop.specs.Ops.{asr, mod_z}
-use Rattle.basicop.proofs.Ints.{up, dn, arith_ℤ}
+use borrow.Author.Differences.{up, down}
+use Rattle.basicop.proofs.Ints.{arith_ℤ}
 
 pub mag_shr : (z : ℤ) (m : ℕ) → mag (shr_z z m) ≡ mag z / m
 mag_shr (pos a) m = refl
@@ -81,7 +82,7 @@ unfolding asr
 asr_asr z m k = shr_shr z (2 ^ m) (2 ^ k) ∙ ap (shr_z z) (sym (pow-add 2 m k))
 
 -- the quotient and the remainder, as a linear fact for `omega` where m is a numeral
-pub shr_is : (z : ℤ) (m : ℕ) → 0 < m → up z + m * dn (shr_z z m) ≡ dn z + (m * up (shr_z z m) + mod_z z m)
+pub shr_is : (z : ℤ) (m : ℕ) → 0 < m → up z + m * down (shr_z z m) ≡ down z + (m * up (shr_z z m) + mod_z z m)
 shr_is (pos a) m p = omega (arith, div-add-mod' a m)
 shr_is (negsuc a) m p = omega (arith, div-add-mod' a m, mod-lt a p)
 

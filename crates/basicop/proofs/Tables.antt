@@ -10,11 +10,11 @@ use lib.ListN.{length}
 use lib.Signed.{◌≤ℤ◌, ◌<ℤ◌}
 use mir.Syntax.{w16, w32}
 use mir.Val.{SFits}
-use Rattle.lists.specs.Lists.{at, entry}
 use Rattle.basicop.specs.Ops.{asr, sub, l_sub, l_mult, extract_h, l_deposit_h, l_extract}
 use Rattle.basicop.specs.Interpolation.{position_of, between}
 use Rattle.basicop.specs.declared.Dpf.{Dpf}
-use Rattle.basicop.proofs.Ints.{arith_ℤ, le_in, lt_in, sfits_by, add_is, mul_is, sub_ℤ_is}
+use borrow.Author.Differences.{sum_is_lem, product_is}
+use Rattle.basicop.proofs.Ints.{arith_ℤ, le_in, lt_in, sfits_by, sub_ℤ_is}
 use Rattle.basicop.proofs.Range.{nat_abs_is, mul_bound, abs_by}
 use Rattle.basicop.proofs.Shift.{mod_z_lt}
 use Rattle.basicop.proofs.Clamp.{clamp_id}
@@ -69,7 +69,7 @@ shares t u a h =
     let d = pos t -ℤ pos u in
     let p = d *ℤ pos a in
     let k : 65536 - 2 * a + 2 * a ≡ 65536 = omega arith in
-    omega (arith_ℤ, sub_ℤ_is (pos t *ℤ pos 65536) (pos 2 *ℤ p), mul_is (pos 2) p, mul_is d (pos a), ap (λ (n : ℕ). n * a) (sub_ℤ_is (pos t) (pos u)), ap (λ (n : ℕ). t * n) k)
+    omega (arith_ℤ, sub_ℤ_is (pos t *ℤ pos 65536) (pos 2 *ℤ p), product_is (pos 2) p, product_is d (pos a), ap (λ (n : ℕ). n * a) (sub_ℤ_is (pos t) (pos u)), ap (λ (n : ℕ). t * n) k)
 
 module _ (t u a : ℕ) (h : a ≤ 32767) where
   shared_from : (m : ℕ) → m ≤ t → m ≤ u → m * 65536 ≤ t * (65536 - 2 * a) + u * (2 * a)
@@ -110,12 +110,7 @@ step (negsuc t) u a h _ _ _ _ _ = absurd h.le
 
 -- ---- what `interpolate` asks: an index below n, in a table of n + 1 entries
 pub has_next : {n : ℕ} {base x : ℤ} (t : List ℤ) → Within n base x → length t ≡ n + 1 → (pos 0 ≤ℤ (position_of base x).index) × (((position_of base x).index +ℤ pos 1) <ℤ pos (length t))
-has_next {n} {base} {x} t w e = rw e (w.from, omega (arith_ℤ, w.below, add_is (position_of base x).index (pos 1)))
-
--- ---- as the code reads a table of any length
-pub entry_next : (t : List ℤ) (i : ℤ) → pos 0 ≤ℤ i → (i +ℤ pos 1) <ℤ pos (length t) → (nat_abs i + 1 < length t) × (entry t i ≡ at t (nat_abs i)) × (entry t (i +ℤ pos 1) ≡ at t (nat_abs i + 1))
-entry_next t (pos i) h l = (omega arith_ℤ, refl, refl)
-entry_next t (negsuc i) h l = absurd h.le
+has_next {n} {base} {x} t w e = rw e (w.from, omega (arith_ℤ, w.below, sum_is_lem (position_of base x).index (pos 1)))
 
 -- L_Extract's halves are the high word, and the low 15 bits of x >> 1
 pub halves : (base x : ℤ) (d : Dpf) → SFits w32 x → d ≡ l_extract x → record { index = sub d.hi base; fraction = d.lo } ≡ position_of base x

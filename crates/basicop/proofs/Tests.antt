@@ -1,6 +1,6 @@
--- A test of two signed numbers, as a branch leaves it, is a fact of their order; two tests. Assumes nothing.
+-- A test of two signed numbers, as a branch leaves it, is a fact of their order. Assumes nothing.
 use mathlib.Core.Path.{◌≡◌, refl, subst}
-use mathlib.Core.Bool.{Bool, true, false, ◌&&◌, ◌||◌}
+use mathlib.Core.Bool.{true, false}
 use borrow.Author.Tests.{leb-false, lt-ltb, le-ltb}
 use lib.Dec.{T, lt→ltb, ltb→lt, leb→le}
 use lib.IntN.{ℤ, pos, negsuc}
@@ -38,27 +38,5 @@ no_less (negsuc a) (pos b) h = absurd h.le
 no_less (negsuc a) (negsuc b) h = le-ltb b a (leb→le a b h.le)
 
 -- a test against 0, of the bits read back
-module _ (w : Width) (n : ℤ) (f : SFits w n) where
-  pub negative : lt_z (to_z w (of_z w n)) (pos 0) ≡ true → n <ℤ pos 0
-  negative e = less_yes (rw (to_z-of_z f) at e)
-
-  pub from_zero : lt_z (to_z w (of_z w n)) (pos 0) ≡ false → pos 0 ≤ℤ n
-  from_zero e = less_no (rw (to_z-of_z f) at e)
-
--- ---- neither of two tests
-pub or_left : (b c : Bool) → (b || c) ≡ false → b ≡ false
-or_left true c e = e
-or_left false c e = refl
-
-pub or_right : (b c : Bool) → (b || c) ≡ false → c ≡ false
-or_right true c e = cc
-or_right false c e = e
-
--- ---- both of two tests
-pub and_left : (b c : Bool) → (b && c) ≡ true → b ≡ true
-and_left true c e = refl
-and_left false c e = e
-
-pub and_right : (b c : Bool) → (b && c) ≡ true → c ≡ true
-and_right true c e = e
-and_right false c e = cc
+pub negative : (w : Width) (n : ℤ) → SFits w n → lt_z (to_z w (of_z w n)) (pos 0) ≡ true → n <ℤ pos 0
+negative w n f e = less_yes (rw (to_z-of_z f) at e)

@@ -4,6 +4,7 @@ ghost use Rattle.basicop.specs.Ops.{mod_z, extract_h, extract_l, round, l_deposi
 
 use crate::arithmetic::l_add;
 
+#[tactic(auto, using(crate::proofs::Calls::read_back, crate::proofs::Shift::sfits_shr_z), unfolding(crate::specs::Ops::asr))]
 pub fn extract_h(x: i32) -> i16
     ensures { result ≡ extract_h x }
 {
@@ -32,6 +33,7 @@ pub fn round(x: i32) -> i16
     extract_h(l_add(x, 32768))
 }
 
+#[tactic(auto, using(crate::proofs::Calls::read_back, crate::proofs::Range::sfits_times), unfolding(crate::specs::Ops::l_deposit_h))]
 pub fn l_deposit_h(a: i16) -> i32
     ensures { result ≡ l_deposit_h a }
 {

@@ -1,6 +1,6 @@
 // The way between two entries of a table, as Inv_sqrt, Log2 and Pow2 go it.
 ghost use Rattle.std.specs.Prelude.{◌≡◌, pos, ◌+ℤ◌, length, ◌≤ℤ◌, ◌<ℤ◌};
-ghost use Rattle.basicop.specs.Interpolation.{position_of, between, interpolated};
+ghost use Rattle.basicop.specs.Interpolation.{position_of, interpolated};
 
 use crate::Position;
 use crate::arithmetic::{l_msu, sub};
@@ -18,18 +18,12 @@ pub fn locate(x: i32, base: i16) -> Position
     }
 }
 
-// from an entry to the next
-fn between(low: i16, next: i16, fraction: i16) -> i32
-    ensures { result ≡ between low next fraction }
-{
-    l_msu(l_deposit_h(low), sub(low, next), fraction)
-}
-
-// Of a table of any length. The caller shows that the position has an entry after it.
+// From an entry to the next, in a table of any length. The caller shows that the position has an entry after it.
 pub fn interpolate(table: &[i16], position: Position) -> i32
     requires { (pos 0 ≤ℤ position.index) × ((position.index +ℤ pos 1) <ℤ pos (length table.now)) }
     ensures { result ≡ interpolated table.now position }
 {
     let i = position.index as usize;
-    between(table[i], table[i + 1], position.fraction)
+    let (low, next) = (table[i], table[i + 1]);
+    l_msu(l_deposit_h(low), sub(low, next), position.fraction)
 }

@@ -26,7 +26,7 @@ pub use shifting::{l_shl, l_shr, l_shr_r, shr};
 
 // A number that is handed on between functions has its scaling in its type: Qn is scaled by 2 ^ n.
 // Pitch gain and sharpening.
-#[derive(Clone, Copy)]
+#[derive(Clone, Copy, Default)]
 pub struct Q14(pub i16);
 
 // Code gain.
@@ -46,14 +46,14 @@ pub struct Q12(pub i16);
 pub struct Q15(pub i16);
 
 // A 32-bit number in two halves, the standard's double precision format: hi * 65536 + lo * 2.
-#[derive(Drop)]
+#[derive(Clone, Copy)]
 pub struct Dpf {
     pub hi: i16,
     pub lo: i16,
 }
 
 // Where a number lies in a table: the index of the entry before it, and the fraction (Q15) of the way to the next.
-#[derive(Drop)]
+#[derive(Clone, Copy)]
 pub struct Position {
     pub index: i16,
     pub fraction: i16,
@@ -71,13 +71,21 @@ pub fn mac(s: i32, a: i16, b: i16, plain: bool) -> i32
     }
 }
 
-// each sample >> 2
+// each sample >> 2, where it stands
 pub fn quarter(samples: &mut [i16])
     ensures { samples.new ≡ quartered samples.old }
 {
     for sample in samples {
         *sample = shr(*sample, 2);
     }
+}
+
+// the samples, each >> 2
+pub fn quartered<const N: usize>(mut samples: [i16; N]) -> [i16; N]
+    ensures { result ≡ quartered samples.entry }
+{
+    quarter(&mut samples);
+    samples
 }
 
 // the sharpening as pitch sharpening and enhancement take it

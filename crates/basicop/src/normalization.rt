@@ -4,6 +4,7 @@ ghost use Rattle.std.specs.Int.Count.{count_leading_zeros};
 ghost use Rattle.basicop.specs.Ops.{norm_l};
 
 // how many zeros a number of 31 bits has above its highest digit
+#[tactic(auto, using(crate::proofs::Norm::leading_from))]
 fn headroom(n: u32) -> i16
     requires { n < 2147483648 }
     ensures { result ≡ pos (count_leading_zeros 32 n - 1) }

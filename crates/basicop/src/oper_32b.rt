@@ -17,6 +17,7 @@ pub fn l_extract(x: i32) -> Dpf
     }
 }
 
+#[tactic(auto, using(crate::proofs::Calls::read_back), unfolding(crate::specs::Ops::mpy_32_16))]
 pub fn mpy_32_16(x: Dpf, n: i16) -> i32
     ensures { result ≡ mpy_32_16 x n }
 {

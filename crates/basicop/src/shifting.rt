@@ -26,6 +26,7 @@ fn right(x: i32, n: u16) -> i32
     x >> n.min(31)
 }
 
+#[tactic(auto, using(crate::proofs::Calls::read_back, crate::proofs::Counts::l_shl_left, crate::proofs::Counts::l_shl_right, std::proofs::lemmas::Int::ints))]
 pub fn l_shl(x: i32, n: i16) -> i32
     ensures { result ≡ l_shl x n }
 {
@@ -37,6 +38,7 @@ pub fn l_shl(x: i32, n: i16) -> i32
     }
 }
 
+#[tactic(auto, using(crate::proofs::Calls::read_back, crate::proofs::Counts::l_shr_left, std::proofs::lemmas::Int::ints))]
 pub fn l_shr(x: i32, n: i16) -> i32
     ensures { result ≡ l_shr x n }
 {
@@ -48,12 +50,14 @@ pub fn l_shr(x: i32, n: i16) -> i32
     }
 }
 
+#[tactic(auto, using(crate::proofs::Calls::read_back, crate::proofs::Counts::shl_is))]
 pub fn shl(x: i16, n: i16) -> i16
     ensures { result ≡ shl x n }
 {
     clamp16(l_shl(x as i32, n))
 }
 
+#[tactic(auto, using(crate::proofs::Calls::read_back, crate::proofs::Counts::shr_is))]
 pub fn shr(x: i16, n: i16) -> i16
     ensures { result ≡ shr x n }
 {

@@ -7,6 +7,7 @@ ghost use Rattle.bench_output.specs.Output.{bench_output};
 ghost use Rattle.bench_output.specs.Steps.{loop_output};
 ghost use Rattle.bench.specs.Serving.{ServesSheet};
 
+use mr74::SHEET_BYTES;
 use state::State;
 use std::io;
 use std::io::{Read, Write};
@@ -22,7 +23,10 @@ fn serve_sheet<R: Read, W: Write>(
     ensures { IfOk result (λ next. ServesSheet (R.remaining input.old) (R.remaining input.new) (W.contents output.old) (W.contents output.new)
         number state next) }
 {
-    let step = sheets::on_sheet(input, |bytes| bench_output::step(number, bytes, state))?;
+    let step = sheets::on_bytes::<SHEET_BYTES, _, _, _>(
+        input,
+        |bytes| bench_output::step(number, bytes, state),
+    )?;
     output.write_all(step.made.as_bytes())?;
     Ok(step.next)
 }

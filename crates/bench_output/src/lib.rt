@@ -1,15 +1,15 @@
 // The bench program's steps: what it prints of each sheet that it reads, and the state for the next.
 #![tactic(auto)]
 
-ghost use Rattle.std.specs.Prelude.{◌≡◌, length};
+ghost use Rattle.std.specs.Prelude.{◌≡◌};
 ghost use Rattle.mr74.specs.Frame.{call_result};
-ghost use Rattle.sheets.specs.Sheets.{sheet_bytes, step_result, told};
+ghost use Rattle.sheets.specs.Sheets.{step_result, told};
 ghost use Rattle.bench_output.specs.Output.{answer_line};
 ghost use Rattle.bench_output.specs.Steps.{sheet_step};
 
 use lines::Line;
-use mr74::{FrameAnswer, SAMPLES};
-use sheets::{Decoded, SHEET_BYTES, Step};
+use mr74::{FrameAnswer, SAMPLES, SHEET_BYTES};
+use sheets::{Decoded, Step};
 use state::State;
 use std::ops::ControlFlow;
 
@@ -26,11 +26,10 @@ fn answer_line(number: u64, answer: FrameAnswer, samples: [i16; SAMPLES]) -> Lin
 
 // A whole sheet: its line, and the state that its call gives back.
 #[tactic(auto, using(crate::proofs::Answers::step_whole))]
-fn whole_step(number: u64, bytes: &[u8], state: State) -> Step<Line>
-    requires { length bytes.now ≡ sheet_bytes }
-    ensures { told step_result result ≡ sheet_step number state bytes.now }
+fn whole_step(number: u64, sheet: &[u8; SHEET_BYTES], state: State) -> Step<Line>
+    ensures { told step_result result ≡ sheet_step number state sheet.now }
 {
-    let Decoded { answer, samples } = sheets::decode_bytes(bytes, state);
+    let Decoded { answer, samples } = sheets::decode_bytes(sheet, state);
     let next = ControlFlow::Continue(answer.next);
     Step {
         made: answer_line(number, answer, samples),
@@ -38,18 +37,18 @@ fn whole_step(number: u64, bytes: &[u8], state: State) -> Step<Line>
     }
 }
 
-// The step of what was read of a sheet: nothing, all of it, or some.
+// The step of what was read of a sheet: all of it, nothing, or some.
 #[tactic(auto, using(crate::proofs::Answers::step_none, crate::proofs::Answers::step_cut))]
 pub fn step(number: u64, bytes: &[u8], state: State) -> Step<Line>
     ensures { told step_result result ≡ sheet_step number state bytes.now }
 {
-    match bytes.len() {
-        0 => Step {
+    match bytes.as_array() {
+        Some(sheet) => whole_step(number, sheet, state),
+        None if bytes.is_empty() => Step {
             made: Line::new(),
             next: ControlFlow::Break(state),
         },
-        SHEET_BYTES => whole_step(number, bytes, state),
-        _ => Step {
+        None => Step {
             made: lines::cut_line(number),
             next: ControlFlow::Break(state),
         },

@@ -1,13 +1,16 @@
 -- What is lent, part by part. Assumes nothing.
-use mathlib.Core.Path.{◌≡◌, refl, sym, ◌∙◌}
+use mathlib.Core.Path.{◌≡◌, refl, sym, ◌∙◌, subst}
 use mathlib.Core.Bool.{Bool, true, false, cond}
 use mathlib.Core.List.{List, [], ◌∷◌}
-use Prim.Native.Nat.{ℕ, zero, suc, ◌≤◌}
+use Prim.Native.Nat.{ℕ, zero, suc, ◌≤◌, ◌<◌}
 use native.Mathlib.Omega.{arith}
 use lib.Dec.{eqb}
 use lib.IntN.{ℤ, pos}
 use lib.ListN.{length, length-replicate}
 use borrow.Author.Tests.{eqb-true}
+use Rattle.std.specs.Array.{list_steps}
+use Rattle.std.specs.Iterator.{Yields, CallableAtEachTurn}
+use Rattle.std.proofs.lemmas.Fn.{serves_by}
 use Rattle.lists.specs.Lists.{Every}
 use Rattle.decoder.proofs.Results.{Held}
 use Rattle.state.specs.declared.State.{State}
@@ -33,6 +36,20 @@ places_bytes : (places : List ℕ) → Every (λ (place : ℕ). place ≤ 40) pl
 places_bytes [] e i = omega arith
 places_bytes (p ∷ ps) e zero = let h = e.0 in omega (arith, h)
 places_bytes (p ∷ ps) e (suc i) = places_bytes ps e.1 i
+
+-- what is left of bytes, after some were taken from the front
+left_bytes : (xs bytes rest : List ℕ) → Yields list_steps bytes xs rest → Bytes bytes → Bytes rest
+left_bytes [] bytes rest e b = subst Bytes e b
+left_bytes (x ∷ xs) bytes rest y b = left_bytes xs y.0 rest y.2 (λ i. subst Bytes y.1 b (suc i))
+
+-- what `map` asks over bytes, of a closure that asks for a byte and stays as it was
+pub called_at_bytes : {P : Type 0} {R : P → ℕ → P → Type 0} {Q : P → ℕ → Type 0} {f : P} (bytes : List ℕ) → Bytes bytes
+    → ((x : ℕ) (q : P) → R f x q → q ≡ f) → ((x : ℕ) → x < 256 → Q f x) → CallableAtEachTurn list_steps R Q bytes f
+called_at_bytes {R = R} {Q} {f} bytes b keeps may =
+    serves_by R (λ xs q. q ≡ f)
+    (λ xs q x v e r. keeps x v (rw e at r))
+    list_steps Q bytes f refl
+    (λ xs rest q x u y h e. rw e (may x (subst Bytes h (left_bytes xs bytes rest y b) 0)))
 
 pub frame_bytes_lem : (sheet : List ℤ) (s : State) (out : List ℤ) → Held s.core → Bytes (frame_call sheet s out).answer.places
 frame_bytes_lem sheet s out h = places_bytes (frame_call sheet s out).answer.places (frame_places sheet s out h)

@@ -1,53 +1,61 @@
 -- The three calls, case by case. Assumes nothing.
-use mathlib.Core.Path.{◌≡◌, refl}
-use mathlib.Core.Bool.{Bool, true, false, ◌&&◌}
+use mathlib.Core.Path.{◌≡◌}
+use mathlib.Core.Bool.{true, false}
 use mathlib.Core.List.{List}
 use Prim.Native.Nat.{ℕ}
 use lib.ListN.{length}
 use lib.Dec.{eqb}
 use borrow.Author.Tests.{eq-eqb, ne_eqb, eqb-true}
+use Rattle.std.specs.Array.{IsWholeChunk}
+use Rattle.std.proofs.lemmas.Bool.{and_parts}
 use Rattle.state.specs.declared.State.{State}
 use Rattle.outcome.specs.Outcome.{Outcome}
 use Rattle.record.specs.declared.Answer.{Answer}
-use Rattle.record.specs.Record.{read_call, write_result, write_call}
+use Rattle.record.specs.Record.{read_result, read_call, write_result, write_call}
 use Rattle.mr74.specs.declared.FrameAnswer.{FrameAnswer}
 use Rattle.mr74.specs.Frame.{frame_call}
 use Rattle.capi.specs.Capi.{state_length, rows_length, places_length, fits, unfit, code_of, state_in, state_bytes, sheet_in, room_in, out_after, row_bytes, frame_return, frame_bytes, read_return, read_bytes, write_return, write_bytes}
 
-both : (s t : Bool) → s && t ≡ true → (s ≡ true) × (t ≡ true)
-both true t e = (refl, e)
-both false t e = (e, cc)
-
 pub lengths : (state rows places : ℕ) → fits state rows places ≡ true → (state ≡ state_length) × ((rows ≡ rows_length) × (places ≡ places_length))
 lengths state rows places h =
-    let p = both (eqb state state_length) _ h in
-    let q = both (eqb rows rows_length) _ p.1 in
+    let p = and_parts (eqb state state_length) _ h in
+    let q = and_parts (eqb rows rows_length) _ p.1 in
     (eqb-true state state_length p.0, (eqb-true rows rows_length q.0, eqb-true places places_length q.1))
 
 module _ (sheet state out rows places : List ℕ) where
-  pub frame_unfit : fits (length state) (length rows) (length places) ≡ false → frame_return unfit state out rows places ≡ frame_bytes sheet state out rows places
+  left_unfit : fits (length state) (length rows) (length places) ≡ false → frame_return unfit state out rows places ≡ frame_bytes sheet state out rows places
   unfolding frame_bytes
-  frame_unfit h = rw h
+  left_unfit h = rw h
 
-  pub frame_given : fits (length state) (length rows) (length places) ≡ true
+  -- one of the three has another length
+  pub state_unfit : (length state ≡ state_length → ⊥) → frame_return unfit state out rows places ≡ frame_bytes sheet state out rows places
+  state_unfit h = left_unfit (rw (ne_eqb _ _ h))
+
+  pub rows_unfit : {state' : List ℕ} → IsWholeChunk state state' state_length → (length rows ≡ rows_length → ⊥) → frame_return unfit state' out rows places ≡ frame_bytes sheet state out rows places
+  rows_unfit s h = rw s.same (left_unfit (rw (eq-eqb _ _ s.long, ne_eqb _ _ h)))
+
+  pub places_unfit : {state' rows' : List ℕ} → IsWholeChunk state state' state_length → IsWholeChunk rows rows' rows_length → (length places ≡ places_length → ⊥)
+      → frame_return unfit state' out rows' places ≡ frame_bytes sheet state out rows places
+  places_unfit s r h = rw (s.same, r.same) (left_unfit (rw (eq-eqb _ _ s.long, eq-eqb _ _ r.long, ne_eqb _ _ h)))
+
+  pub frame_given : length state ≡ state_length → length rows ≡ rows_length → length places ≡ places_length
       → {s : State} {a : FrameAnswer} {code : ℕ} {out' state' rows' places' : List ℕ}
       → s ≡ state_in state
       → (a ≡ (frame_call (sheet_in sheet) s (room_in out)).answer) × (out' ≡ out_after (frame_call (sheet_in sheet) s (room_in out)) out)
       → code ≡ code_of a.outcome → state' ≡ state_bytes a.next → rows' ≡ row_bytes a.rows → places' ≡ a.places
       → frame_return code state' out' rows' places' ≡ frame_bytes sheet state out rows places
   unfolding frame_bytes
-  frame_given h es (ea, eo) ec et er ef = rw (h, ec, et, er, ef, eo, ea, es)
+  frame_given ls lr lp es (ea, eo) ec et er ef = rw (eq-eqb _ _ ls, eq-eqb _ _ lr, eq-eqb _ _ lp, ec, et, er, ef, eo, ea, es)
 
 module _ (bytes state : List ℕ) (note : ℕ) where
   pub read_unfit : (length state ≡ state_length → ⊥) → read_return unfit state note ≡ read_bytes bytes state note
   unfolding read_bytes
   read_unfit h = rw (ne_eqb _ _ h)
 
-  pub read_given : length state ≡ state_length → {a : Answer} {code : ℕ} {state' part : List ℕ} {n : ℕ}
-      → a ≡ (read_call bytes).answer → code ≡ code_of a.outcome → state' ≡ state_bytes a.state → n ≡ length part → part ≡ (read_call bytes).note
-      → read_return code state' n ≡ read_bytes bytes state note
+  pub read_given : length state ≡ state_length → {a : Answer} {part : List ℕ} → read_result a part ≡ read_call bytes
+      → {code : ℕ} {state' : List ℕ} → code ≡ code_of a.outcome → state' ≡ state_bytes a.state → read_return code state' (length part) ≡ read_bytes bytes state note
   unfolding read_bytes
-  read_given h ea ec et en ep = rw (eq-eqb _ _ h, ec, et, en, ep, ea)
+  read_given h e ec et = rw (eq-eqb _ _ h, ec, et, ← e)
 
 module _ (state lent : List ℕ) where
   pub write_unfit : (length state ≡ state_length → ⊥) → write_return unfit lent ≡ write_bytes state lent

@@ -1,13 +1,13 @@
 // The frame call over bytes: its sheet, its samples, and what its answer leaves in what was lent.
-ghost use Rattle.std.specs.Prelude.{◌≡◌, ◌<◌, length};
+ghost use Rattle.std.specs.Prelude.{◌≡◌, ◌<◌};
 ghost use Rattle.outcome.specs.Outcome.{place_of};
 ghost use Rattle.mr74.specs.Frame.{call_result, frame_call};
 ghost use Rattle.coding.specs.Bytes.{Bytes};
-ghost use Rattle.capi.specs.Capi.{state_length, rows_length, places_length, code_of, sheet_in, room_in, out_after, row_bytes, state_bytes};
+ghost use Rattle.capi.specs.Capi.{code_of, sheet_in, room_in, out_after, row_bytes, state_bytes};
 
-use super::{OUT_BYTES, ROW_BYTES, SHEET_BYTES, code};
+use super::{OUT_BYTES, PLACES_BYTES, ROWS_BYTES, STATE_BYTES, code};
 use lpc::Rows;
-use mr74::{FrameAnswer, SAMPLES, SHEET};
+use mr74::{FrameAnswer, SAMPLES, SHEET, SHEET_BYTES};
 use state::State;
 
 // The call of a sheet's bytes. A sheet of another length has no numbers, which the call refuses.
@@ -22,6 +22,7 @@ fn frame_in(sheet: &[u8], state: State, samples: &mut [i16]) -> FrameAnswer
 }
 
 // The same with the samples' bytes. An output of another length has no room for samples, which the call refuses.
+#[tactic(auto, using(crate::proofs::Buffers::no_room))]
 pub fn frame_out(sheet: &[u8], state: State, out: &mut [u8]) -> FrameAnswer
     ensures value { result ≡ (frame_call (sheet_in sheet.now) state (room_in out.old)).answer }
     ensures out_after { out.new ≡ out_after (frame_call (sheet_in sheet.now) state (room_in out.old)) out.old }
@@ -38,33 +39,28 @@ pub fn frame_out(sheet: &[u8], state: State, out: &mut [u8]) -> FrameAnswer
 }
 
 // The four rows one after another.
-fn write_rows(rows: Rows, out: &mut [u8])
-    requires { length out.old ≡ rows_length }
+fn write_rows(rows: Rows, out: &mut [u8; ROWS_BYTES])
     ensures { out.new ≡ row_bytes rows }
 {
-    let (a, rest) = out.split_at_mut(ROW_BYTES);
-    let (b, rest) = rest.split_at_mut(ROW_BYTES);
-    let (c, d) = rest.split_at_mut(ROW_BYTES);
-    coding::put(a, &rows.a);
-    coding::put(b, &rows.b);
-    coding::put(c, &rows.c);
-    coding::put(d, &rows.d);
+    coding::put(out, <[[i16; 11]; 4]>::from(rows).as_flattened());
 }
 
 // A byte for each place.
-fn write_places(places: [usize; 4], out: &mut [u8])
-    requires { (length out.old ≡ places_length) × Bytes places }
-    ensures { out.new ≡ places }
+fn place_bytes(places: [usize; 4]) -> [u8; PLACES_BYTES]
+    requires { Bytes places }
+    ensures { result ≡ places }
 {
-    for (i, place) in places.iter().enumerate() {
-        out[i] = *place as u8;
-    }
+    places.map(|place| place as u8)
 }
 
 // What an answer leaves in what was lent beside the output.
-pub fn give(answer: FrameAnswer, state: &mut [u8], rows: &mut [u8], places: &mut [u8]) -> u32
-    requires state_len { (length state.old ≡ state_length) × ((length rows.old ≡ rows_length) × (length places.old ≡ places_length)) }
-    requires outcome_bound { (place_of answer.outcome < 256) × Bytes answer.places }
+pub fn give(
+    answer: FrameAnswer,
+    state: &mut [u8; STATE_BYTES],
+    rows: &mut [u8; ROWS_BYTES],
+    places: &mut [u8; PLACES_BYTES],
+) -> u32
+    requires { (place_of answer.outcome < 256) × Bytes answer.places }
     ensures value { result ≡ code_of answer.outcome }
     ensures state_after { state.new ≡ state_bytes answer.next }
     ensures rows_after { rows.new ≡ row_bytes answer.rows }
@@ -72,6 +68,6 @@ pub fn give(answer: FrameAnswer, state: &mut [u8], rows: &mut [u8], places: &mut
 {
     coding::write_body(answer.next, state);
     write_rows(answer.rows, rows);
-    write_places(answer.places, places);
+    *places = place_bytes(answer.places);
     code(answer.outcome)
 }

@@ -3,36 +3,25 @@
 
 ghost use Rattle.std.specs.Prelude.{◌≡◌, ◌<◌};
 ghost use Rattle.outcome.specs.Outcome.{place_of};
-ghost use Rattle.capi.specs.Capi.{fits, code_of, frame_return, frame_bytes, read_return, read_bytes, write_return, write_bytes};
+ghost use Rattle.capi.specs.Capi.{code_of, frame_return, frame_bytes, read_return, read_bytes, write_return, write_bytes};
 
 mod frames;
 
 use frames::{frame_out, give};
-use mr74::{SAMPLES, SHEET};
+use mr74::SAMPLES;
 use outcome::Outcome;
 
-// How long the buffers are: two bytes for each number, one for each place.
-const SHEET_BYTES: usize = 2 * SHEET;
-
+// How long the other buffers are: two bytes for each number, one for each place.
 const OUT_BYTES: usize = 2 * SAMPLES;
 
 const STATE_BYTES: usize = coding::BODY_BYTES;
 
-const ROW_BYTES: usize = 2 * 11;
-
-const ROWS_BYTES: usize = 4 * ROW_BYTES;
+const ROWS_BYTES: usize = 2 * (4 * 11);
 
 const PLACES_BYTES: usize = 4;
 
 // What is returned where a lent state, rows or places has another length.
 const UNFIT: u32 = 255;
-
-// Whether a lent state, rows and places have their lengths.
-fn fit(state: usize, rows: usize, places: usize) -> bool
-    ensures { result ≡ fits state rows places }
-{
-    (state == STATE_BYTES) & ((rows == ROWS_BYTES) & (places == PLACES_BYTES))
-}
 
 // Number and place in one.
 fn code(outcome: Outcome) -> u32
@@ -55,12 +44,17 @@ pub fn mr74_frame(
 ) -> u32
     ensures { frame_return result state.new out.new rows.new places.new ≡ frame_bytes sheet.now state.old out.old rows.old places.old }
 {
-    if fit(state.len(), rows.len(), places.len()) {
-        let before = coding::state_in(state);
-        let answer = frame_out(sheet, before, out);
-        return give(answer, state, rows, places);
-    }
-    UNFIT
+    let Some(state) = state.as_mut_array() else {
+        return UNFIT;
+    };
+    let Some(rows) = rows.as_mut_array() else {
+        return UNFIT;
+    };
+    let Some(places) = places.as_mut_array() else {
+        return UNFIT;
+    };
+    let answer = frame_out(sheet, coding::state_in(state), out);
+    give(answer, state, rows, places)
 }
 
 // ---- the reader
@@ -68,13 +62,13 @@ pub fn mr74_frame(
 pub fn mr74_read(bytes: &[u8], state: &mut [u8], note: &mut usize) -> u32
     ensures { read_return result state.new note.new ≡ read_bytes bytes.now state.old note.old }
 {
-    if state.len() != STATE_BYTES {
+    let Some(state) = state.as_mut_array() else {
         return UNFIT;
-    }
-    let answer = record::answer_of(bytes);
-    coding::write_body(answer.state, state);
-    *note = record::note(bytes).len();
-    code(answer.outcome)
+    };
+    let reading = record::read(bytes);
+    coding::write_body(reading.answer.state, state);
+    *note = reading.note.len();
+    code(reading.answer.outcome)
 }
 
 // ---- the writer
@@ -82,8 +76,8 @@ pub fn mr74_read(bytes: &[u8], state: &mut [u8], note: &mut usize) -> u32
 pub fn mr74_write(state: &[u8], bytes: &mut [u8]) -> u32
     ensures { write_return result bytes.new ≡ write_bytes state.now bytes.old }
 {
-    if state.len() != STATE_BYTES {
+    let Some(state) = state.as_array() else {
         return UNFIT;
-    }
+    };
     code(record::write(coding::state_in(state), bytes))
 }

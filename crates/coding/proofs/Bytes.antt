@@ -17,7 +17,6 @@ use Rattle.std.specs.Int.{to_le_bytes}
 use Rattle.lists.specs.Lists.{at, minus}
 use Rattle.lists.proofs.Signed.{back}
 use Rattle.coding.specs.Bytes.{signed16, bits16, unsigned, words, bytes_of, Bytes}
-use Rattle.coding.proofs.Words.{words_length}
 use Rattle.coding.proofs.Laid.{bytes_append}
 
 -- ---- one number
@@ -33,18 +32,6 @@ bits_high (negsuc n) h = omega arith
 pub bytes_are : {r : List ℕ} (z : ℤ) → mag z < 2 ^ 15 → r ≡ to_le_bytes w16 (of_z w16 (to_z w16 (of_z w16 z))) → (get_or r 0 0 ≡ bits16 z % 256) × (get_or r 1 0 ≡ bits16 z / 256)
 bytes_are z h e =
     rw (e, back w16 h, bits_is z h) (refl, bits_high z h)
-
--- ---- bytes to numbers: one more number, and the last
-pub fill_more : (dst : List ℤ) (src : List ℕ) (i : ℕ) (x : ℤ) → length src ≡ 2 * length dst → i < length dst → x ≡ at (words src) i → take i dst ≡ take i (words src)
-    → take (i + 1) (set dst i x) ≡ take (i + 1) (words src)
-fill_more dst src i x l h e inv =
-    let k : i < length (words src) = rw (words_length src (length dst) l) h in
-    rw (take_more_set dst i x h, take_more (words src) i (pos 0) k, inv, e)
-
-pub fill_done : (dst : List ℤ) (src : List ℕ) (i : ℕ) → length src ≡ 2 * length dst → length dst ≤ i → take i dst ≡ take i (words src) → dst ≡ words src
-fill_done dst src i l h inv =
-    let k : length (words src) ≤ i = rw (words_length src (length dst) l) h in
-    sym (take_all i dst h) ∙ inv ∙ take_all i (words src) k
 
 -- ---- numbers to bytes: one more number, and the last
 pub put_more : (dst : List ℕ) (src : List ℤ) (i x y : ℕ) → length dst ≡ 2 * length src → i < length src → x ≡ bits16 (at src i) % 256 → y ≡ bits16 (at src i) / 256

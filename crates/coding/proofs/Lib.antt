@@ -1,4 +1,4 @@
--- Bytes: numbers of 16 bits and their bytes. Words: parts of bytes as parts of numbers. Laid: bytes laid part by part.
+-- Bytes: numbers of 16 bits and their bytes. Words: parts of bytes as parts of numbers. Laid: bytes of parts.
 pub mod Bytes
 pub mod Words
 pub mod Laid

@@ -1,14 +1,17 @@
 -- A part of bytes is a part of their numbers. Assumes nothing.
 use mathlib.Core.Path.{◌≡◌, refl, ap, ap₂, sym, ◌∙◌}
-use mathlib.Core.List.{List, [], ◌∷◌, map}
-use Prim.Native.Nat.{ℕ, zero, suc, ◌+◌, ◌*◌, ◌/◌, ◌<◌}
+use mathlib.Core.List.{List, [], ◌∷◌, ◌++◌, map, append-nil}
+use Prim.Native.Nat.{ℕ, zero, suc, ◌+◌, ◌*◌, ◌^◌, ◌<◌}
 use native.Mathlib.Omega.{arith}
 use lib.IntN.{ℤ}
 use lib.ListN.{length, take, drop, get_or}
-use Rattle.std.specs.Simd.{first_chunks}
+use lib.Signed.{mag}
+use mir.Syntax.{w16}
+use mir.Val.{to_z, of_z}
 use Rattle.lists.specs.Lists.{at}
 use Rattle.lists.specs.Parts.{joined, cut}
 use Rattle.lists.proofs.Parts.{Counted, cut_joined}
+use Rattle.lists.proofs.Signed.{got}
 use Rattle.coding.specs.Bytes.{signed16, unsigned, words}
 
 -- two bytes for each number
@@ -34,6 +37,14 @@ words_cut (n ∷ ns) b = let h = words_split n b in rw (h.0, ← h.1, words_cut 
 pub words_parts : (ns : List ℕ) (ps : List (List ℕ)) (b : List ℕ) → b ≡ joined ps → Counted (doubled ns) ps → map words ps ≡ cut ns (words b)
 words_parts ns ps b e c = ap (map words) (sym (ap (cut (doubled ns)) e ∙ cut_joined (doubled ns) ps c)) ∙ words_cut ns b
 
+-- two parts, the second what is left of the first, and four so
+pub two_parts : (k l : ℕ) (p q : List ℕ) {b : List ℕ} → b ≡ p ++ q → length p ≡ 2 * k → length q ≡ 2 * l → words p ∷ words q ∷ [] ≡ cut (k ∷ l ∷ []) (words b)
+two_parts k l p q {b} e lp lq = words_parts (k ∷ l ∷ []) (p ∷ q ∷ []) b (cc (append-nil q)) (lp, (lq, tt))
+
+pub four_parts : (k l m n : ℕ) (p q r s : List ℕ) {t u b : List ℕ} → b ≡ p ++ t → t ≡ q ++ u → u ≡ r ++ s → length p ≡ 2 * k → length q ≡ 2 * l → length r ≡ 2 * m → length s ≡ 2 * n
+    → words p ∷ words q ∷ words r ∷ words s ∷ [] ≡ cut (k ∷ l ∷ m ∷ n ∷ []) (words b)
+four_parts k l m n p q r s {b = b} e f g lp lq lr ls = words_parts (k ∷ l ∷ m ∷ n ∷ []) (p ∷ q ∷ r ∷ s ∷ []) b (cc (append-nil s)) (lp, (lq, (lr, (ls, tt))))
+
 pub at_words : (b : List ℕ) (k : ℕ) → 2 * k + 1 < length b → signed16 (unsigned (get_or b (2 * k) 0) (get_or b (2 * k + 1) 0)) ≡ at (words b) k
 unfolding words
 at_words [] k h = absurd (omega arith)
@@ -51,16 +62,6 @@ words_length (x ∷ []) n e = absurd (omega (arith, e))
 words_length (x ∷ y ∷ b) zero e = absurd (omega (arith, e))
 words_length (x ∷ y ∷ b) (suc n) e = ap suc (words_length b n (omega (arith, e)))
 
-first_pairs : (n : ℕ) (b : List ℕ) (i : ℕ) → length b ≡ 2 * n → i < n
-    → signed16 (unsigned (get_or (get_or (first_chunks 2 n b) i []) 0 0) (get_or (get_or (first_chunks 2 n b) i []) 1 0)) ≡ at (words b) i
-unfolding words
-first_pairs zero b i e h = absurd (omega arith)
-first_pairs (suc n) [] i e h = absurd (omega (arith, e))
-first_pairs (suc n) (x ∷ []) i e h = absurd (omega (arith, e))
-first_pairs (suc n) (x ∷ y ∷ b) zero e h = refl
-first_pairs (suc n) (x ∷ y ∷ b) (suc i) e h = first_pairs n b i (omega (arith, e)) (omega arith)
-
--- the number of pair i
-pub at_pairs : (ps : List (List ℕ)) (b : List ℕ) (n i : ℕ) → ps ≡ first_chunks 2 (length b / 2) b → length b ≡ 2 * n → i < n
-    → signed16 (unsigned (get_or (get_or ps i []) 0 0) (get_or (get_or ps i []) 1 0)) ≡ at (words b) i
-at_pairs ps b n i p e h = let k : length b / 2 ≡ n = omega (arith, e) in rw (p, k) (first_pairs n b i e h)
+-- the number of a part of one, which went through a local
+pub one_in : {xs zs : List ℤ} → mag (at xs 0) < 2 ^ 15 → xs ≡ zs → to_z w16 (of_z w16 (at xs 0)) ≡ at zs 0
+one_in h e = got w16 h (ap (λ (l : List ℤ). at l 0) e)

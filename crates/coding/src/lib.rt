@@ -2,17 +2,16 @@
 // Not public in document 01's sense: the record's calls, the exported ones and the programs call it, and meet its `requires`.
 #![tactic(auto)]
 
-ghost use Rattle.std.specs.Prelude.{◌≡◌, length};
+ghost use Rattle.std.specs.Prelude.{◌≡◌};
 ghost use Rattle.state.specs.Layout.{core_of, core_numbers, post_of, post_numbers, state_of, numbers_of};
 ghost use Rattle.coding.specs.Bytes.{words, bytes_of};
-ghost use Rattle.coding.specs.Body.{core_length, post_length, body_length};
 
 mod numbers;
 
 use basicop::Q14;
 use decoder::Core;
 use energy::GainControl;
-pub use numbers::{fill, numbers_in, put, unsigned, word};
+pub use numbers::{numbers_in, put, unsigned, word};
 use postfilter::Postfilter;
 use state::{CORE_NUMBERS, HISTORY, LSP, PAST, POST_NUMBERS, State};
 
@@ -23,24 +22,23 @@ pub const POST_BYTES: usize = 2 * POST_NUMBERS;
 pub const BODY_BYTES: usize = CORE_BYTES + POST_BYTES;
 
 // The core of its bytes.
-fn core_in(bytes: &[u8]) -> Core
-    requires { length bytes.now ≡ core_length }
+fn core_in(bytes: &[u8; CORE_BYTES]) -> Core
     ensures { result ≡ core_of (words bytes.now) }
 {
     let (lsp, rest) = bytes.split_at(2 * LSP);
     let (past, rest) = rest.split_at(2 * PAST);
     let (sharpening, history) = rest.split_at(2);
+    let [sharpening]: [i16; 1] = numbers_in(sharpening);
     Core {
         lsp: numbers_in(lsp),
         past: numbers_in(past),
-        sharpening: Q14(word(sharpening[0], sharpening[1])),
+        sharpening: Q14(sharpening),
         history: numbers_in(history),
     }
 }
 
 // The bytes of a core.
-fn write_core(core: Core, out: &mut [u8])
-    requires { length out.old ≡ core_length }
+fn write_core(core: Core, out: &mut [u8; CORE_BYTES])
     ensures { out.new ≡ bytes_of (core_numbers core) }
 {
     let (lsp, rest) = out.split_at_mut(2 * LSP);
@@ -53,26 +51,24 @@ fn write_core(core: Core, out: &mut [u8])
 }
 
 // The postfilter's memory of its bytes.
-pub fn post_in(bytes: &[u8]) -> Postfilter
-    requires { length bytes.now ≡ post_length }
+pub fn post_in(bytes: &[u8; POST_BYTES]) -> Postfilter
     ensures { result ≡ post_of (words bytes.now) }
 {
     let (input, rest) = bytes.split_at(2 * HISTORY);
     let (synthesis, rest) = rest.split_at(2 * HISTORY);
     let (residual, gain) = rest.split_at(2);
+    let [previous_residual]: [i16; 1] = numbers_in(residual);
+    let [previous_gain]: [i16; 1] = numbers_in(gain);
     Postfilter {
         input_history: numbers_in(input),
         synthesis_history: numbers_in(synthesis),
-        previous_residual: word(residual[0], residual[1]),
-        gain: GainControl {
-            previous_gain: word(gain[0], gain[1]),
-        },
+        previous_residual,
+        gain: GainControl { previous_gain },
     }
 }
 
 // The bytes of the postfilter's memory.
-pub fn write_post(post: Postfilter, out: &mut [u8])
-    requires { length out.old ≡ post_length }
+pub fn write_post(post: Postfilter, out: &mut [u8; POST_BYTES])
     ensures { out.new ≡ bytes_of (post_numbers post) }
 {
     let (input, rest) = out.split_at_mut(2 * HISTORY);
@@ -85,23 +81,22 @@ pub fn write_post(post: Postfilter, out: &mut [u8])
 }
 
 // The state of a body: the core, and then the postfilter.
-pub fn state_in(body: &[u8]) -> State
-    requires { length body.now ≡ body_length }
+pub fn state_in(body: &[u8; BODY_BYTES]) -> State
     ensures { result ≡ state_of (words body.now) }
 {
     let (core, post) = body.split_at(CORE_BYTES);
     State {
-        core: core_in(core),
-        post: post_in(post),
+        core: core_in(core.as_array().unwrap()),
+        post: post_in(post.as_array().unwrap()),
     }
 }
 
 // The body of a state.
-pub fn write_body(state: State, out: &mut [u8])
-    requires { length out.old ≡ body_length }
+#[tactic(auto, using(crate::proofs::Laid::two_bytes), unfolding(state::specs::Layout::numbers_of))]
+pub fn write_body(state: State, out: &mut [u8; BODY_BYTES])
     ensures { out.new ≡ bytes_of (numbers_of state) }
 {
     let (core, post) = out.split_at_mut(CORE_BYTES);
-    write_core(state.core, core);
-    write_post(state.post, post);
+    write_core(state.core, core.as_mut_array().unwrap());
+    write_post(state.post, post.as_mut_array().unwrap());
 }

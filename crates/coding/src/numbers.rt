@@ -2,6 +2,8 @@
 ghost use Rattle.std.specs.Prelude.{◌≡◌, ◌*◌, length};
 ghost use Rattle.coding.specs.Bytes.{signed16, unsigned, words, bytes_of};
 
+use std::array;
+
 // Two bytes as a number from 0.
 pub fn unsigned(low: u8, high: u8) -> u16
     ensures { result ≡ unsigned low high }
@@ -14,17 +16,6 @@ pub fn word(low: u8, high: u8) -> i16
     ensures { result ≡ signed16 (unsigned low high) }
 {
     i16::from_le_bytes([low, high])
-}
-
-// The numbers of the bytes of src.
-pub fn fill(dst: &mut [i16], src: &[u8])
-    requires { length src.now ≡ 2 * length dst.old }
-    ensures { dst.new ≡ words src.now }
-{
-    let (pairs, _) = src.as_chunks::<2>();
-    for (i, &[low, high]) in pairs.iter().enumerate() {
-        dst[i] = word(low, high);
-    }
 }
 
 // The bytes of the numbers of src.
@@ -44,7 +35,5 @@ pub fn numbers_in<const N: usize>(bytes: &[u8]) -> [i16; N]
     requires { length bytes.now ≡ 2 * N }
     ensures { result ≡ words bytes.now }
 {
-    let mut numbers = [0; N];
-    fill(&mut numbers, bytes);
-    numbers
+    array::from_fn(|i| word(bytes[2 * i], bytes[2 * i + 1]))
 }

@@ -3,14 +3,20 @@
 
 ghost use Rattle.std.specs.Prelude.{◌≡◌, ◌+◌, ◌-◌, ◌≤◌, ◌++◌, length, take, drop, replicate, pos};
 
-// N of the numbers, from the one at `from` on.
+// N of the numbers, from the one at `from` on, lent.
+pub fn window<const N: usize>(numbers: &[i16], from: usize) -> &[i16; N]
+    requires { from + N ≤ length numbers.now }
+    ensures { result.now ≡ take N (drop from numbers.now) }
+{
+    numbers[from..from + N].first_chunk().unwrap()
+}
+
+// The same, copied.
 pub fn stretch<const N: usize>(numbers: &[i16], from: usize) -> [i16; N]
     requires { from + N ≤ length numbers.now }
     ensures { result ≡ take N (drop from numbers.now) }
 {
-    let mut copied = [0; N];
-    copied.copy_from_slice(&numbers[from..from + N]);
-    copied
+    *window(numbers, from)
 }
 
 // The numbers, and zeros after them.

@@ -13,7 +13,8 @@ use Rattle.lists.specs.Lists.{one_if, count}
 use Rattle.basicop.specs.Ops.{clamp, sub, shl}
 use Rattle.basicop.specs.Divided.{undivided}
 use Rattle.basicop.proofs.Clamp.{clamp_pos, clamp_neg, clamp_above}
-use Rattle.basicop.proofs.Ints.{arith_ℤ, mul_is}
+use borrow.Author.Differences.{product_is}
+use Rattle.basicop.proofs.Ints.{arith_ℤ}
 use Rattle.basicop.proofs.Tests.{less_yes, less_no, yes_less, no_less}
 use Rattle.adaptive.specs.Predict.{predicted}
 use Rattle.excitation.specs.Excitation.{sharpening}
@@ -43,7 +44,7 @@ doubled_above : (z : ℤ) → lt_z (pos 16384) (shl z (pos 1)) ≡ lt_z (pos 819
 unfolding shl
 doubled_above z =
     above_clamped 16384 (lit< tt) (z *ℤ pos 2)
-    ∙ alike (pos 8192) z (pos 16384) (z *ℤ pos 2) (λ p. omega (arith_ℤ, mul_is z (pos 2))) (λ p. omega (arith_ℤ, mul_is z (pos 2)))
+    ∙ alike (pos 8192) z (pos 16384) (z *ℤ pos 2) (λ p. omega (arith_ℤ, product_is z (pos 2))) (λ p. omega (arith_ℤ, product_is z (pos 2)))
 
 sharpening_above : (z : ℤ) → lt_z (pos 8192) (sharpening z) ≡ lt_z (pos 8192) z
 unfolding sharpening sub

@@ -1,4 +1,4 @@
--- A subframe step, the subframes and the core of a frame, put together from what their parts give. Assumes nothing.
+-- A subframe step and the core of a frame, put together from what their parts give. Assumes nothing.
 use mathlib.Core.Path.{◌≡◌}
 use mathlib.Core.List.{List, [], ◌∷◌, ◌++◌, flat_map, append-nil}
 use lib.IntN.{ℤ, pos}
@@ -15,12 +15,11 @@ use Rattle.decoder.specs.declared.Inputs.{Inputs}
 use Rattle.decoder.specs.declared.Excitations.{Excitations}
 use Rattle.decoder.specs.declared.SynthesisOutput.{SynthesisOutput}
 use Rattle.decoder.specs.declared.SubframeOutput.{SubframeOutput}
-use Rattle.decoder.specs.declared.SubframesOutput.{SubframesOutput}
 use Rattle.decoder.specs.declared.CoreOutput.{CoreOutput}
 use Rattle.decoder.specs.Inputs.{subframe_of, inputs_of}
 use Rattle.decoder.specs.Enhance.{first_excitation}
 use Rattle.decoder.specs.Subframe.{SynthesisInput, synthesis_result, synthesis_output}
-use Rattle.decoder.specs.Core.{excitations, subframe_result, subframe_output, subframe_results, subframes_output, row_list, core_result, core_output}
+use Rattle.decoder.specs.Core.{excitations, subframe_result, subframe_output, subframe_results, core_result, core_output}
 
 pub excitations_are : (past : List ℤ) (sharp : ℤ) (p : Parameters) {v code exc x : List ℤ} → v ≡ predicted past (lag_of p.lag) → code ≡ sharpened p.innovation.0 (pos p.lag.samples) sharp → exc ≡ feedback v p.pitch.0 code p.code.0 → x ≡ (first_excitation v p.pitch.0 exc).value → ◌≡◌ {A = Excitations} (record { feedback = exc; excitation = x }) (excitations past sharp (subframe_of p)).value
 unfolding excitations
@@ -34,18 +33,16 @@ module _ (c : Core) (row : List ℤ) (p : Parameters) where
   unfolding subframe_result
   subframe_is ee es eg eh = rw (eh, es, ee, eg)
 
--- ---- four of them
-module _ (core : Core) (rows : Rows) (i : Inputs) where
-  pub results_are : {a b c d : SubframeOutput} {ys : List ℤ} → a ≡ subframe_output (subframe_result core rows.a (subframe_of i.a)) → b ≡ subframe_output (subframe_result a.next rows.b (subframe_of i.b)) → c ≡ subframe_output (subframe_result b.next rows.c (subframe_of i.c)) → d ≡ subframe_output (subframe_result c.next rows.d (subframe_of i.d)) → ys ≡ a.samples ++ (b.samples ++ (c.samples ++ d.samples)) → ◌≡◌ {A = SubframesOutput} (record { places = a.place ∷ b.place ∷ c.place ∷ d.place ∷ []; samples = ys; next = d.next }) (subframes_output core (subframe_results core (row_list rows) (inputs_of i).subframes))
-  unfolding subframe_results flat_map
-  results_are ea eb ec ed ey = rw (append-nil, ey, ed, ec, eb, ea)
-
 -- ---- a frame
 module _ (c : Core) (i : Inputs) where
   -- the state as the subframes take it
   abbrev begun : List ℤ → Core
   begun lsps = record { lsp = lsps; past = c.past; sharpening = c.sharpening; history = c.history }
 
-  pub core_is : {lsps : List ℤ} {rows : Rows} {run : SubframesOutput} → lsps ≡ lsps_of i.lsfs → rows ≡ rows_of c.lsp lsps → run ≡ subframes_output (begun lsps) (subframe_results (begun lsps) (row_list rows) (inputs_of i).subframes) → ◌≡◌ {A = CoreOutput} (record { rows = rows; subframes = run }) (core_output (core_result c (inputs_of i)))
-  unfolding core_result
-  core_is el er en = rw (en, er, el)
+  pub core_is : {lsps : List ℤ} {rows : Rows} {o p q r : SubframeOutput} {ys : List ℤ} → lsps ≡ lsps_of i.lsfs → rows ≡ rows_of c.lsp lsps
+      → o ≡ subframe_output (subframe_result (begun lsps) rows.a (subframe_of i.a)) → p ≡ subframe_output (subframe_result o.next rows.b (subframe_of i.b))
+      → q ≡ subframe_output (subframe_result p.next rows.c (subframe_of i.c)) → r ≡ subframe_output (subframe_result q.next rows.d (subframe_of i.d))
+      → ys ≡ o.samples ++ (p.samples ++ (q.samples ++ r.samples))
+      → ◌≡◌ {A = CoreOutput} (record { rows = rows; places = o.place ∷ p.place ∷ q.place ∷ r.place ∷ []; samples = ys; next = r.next }) (core_output (core_result c (inputs_of i)))
+  unfolding core_result subframe_results flat_map
+  core_is el er eo ep eq et ey = rw (append-nil, ey, et, eq, ep, eo, er, el)

@@ -6,6 +6,7 @@ use Rattle.basicop.specs.Ops.{Quotient}
 use Rattle.basicop.specs.Divided.{Divided, undivided, after}
 use Rattle.spectral.specs.Lsp.{lsps_of}
 use Rattle.lpc.specs.Rows.{rows_of}
+pub use Rattle.lpc.specs.Rows.{row_list}
 use Rattle.lpc.specs.declared.Rows.{Rows}
 use Rattle.adaptive.specs.Predict.{predicted}
 use Rattle.excitation.specs.Excitation.{sharpened, sharpening, feedback}
@@ -13,7 +14,6 @@ use Rattle.synthesis.specs.Synthesis.{newest}
 use Rattle.decoder.specs.declared.Core.{Core}
 use Rattle.decoder.specs.declared.Excitations.{Excitations}
 use Rattle.decoder.specs.declared.SubframeOutput.{SubframeOutput}
-use Rattle.decoder.specs.declared.SubframesOutput.{SubframesOutput}
 use Rattle.decoder.specs.declared.CoreOutput.{CoreOutput}
 use Rattle.decoder.specs.Inputs.{SubframeInputs, FrameInputs}
 use Rattle.decoder.specs.Enhance.{first_excitation}
@@ -75,15 +75,7 @@ samples_of ts = flat_map (λ (t : SubframeResult). t.synthesis.samples) ts
 abbrev pub quotients_of : List SubframeResult → List Quotient
 quotients_of ts = flat_map (λ (t : SubframeResult). t.quotients) ts
 
--- what the code gives of them
-abbrev pub subframes_output : Core → List SubframeResult → SubframesOutput
-subframes_output c ts = record { places = places_of ts; samples = samples_of ts; next = core_after c ts }
-
 -- ---- the core of a frame, of its inputs
--- one row a subframe
-abbrev pub row_list : Rows → List (List ℤ)
-row_list rows = rows.a ∷ rows.b ∷ rows.c ∷ rows.d ∷ []
-
 -- rows, subframes, and the state after them
 pub record CoreResult : Type 0 where
   pub rows : Rows
@@ -103,4 +95,4 @@ core_result c f =
 
 -- what the code gives of it
 abbrev pub core_output : CoreResult → CoreOutput
-core_output d = record { rows = d.rows; subframes = record { places = places_of d.subframes; samples = samples_of d.subframes; next = d.next } }
+core_output d = record { rows = d.rows; places = places_of d.subframes; samples = samples_of d.subframes; next = d.next }

@@ -6,6 +6,7 @@ use basicop::{Q14, Q15};
 use std::array;
 
 // A sample of the enhanced excitation.
+#[tactic(auto, using(basicop::proofs::Calls::read_back))]
 fn enhanced_sample(feedback: i16, adaptive: i16, doubled: Q15, pitch: Q14) -> i16
     ensures { result ≡ enhanced_at doubled.0 pitch.0 feedback adaptive }
 {

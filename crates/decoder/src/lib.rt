@@ -1,6 +1,10 @@
 // The core of a frame: everything up to the synthesis samples.
 #![tactic(auto)]
 
+ghost use Rattle.std.specs.Prelude.{◌≤◌, pos, ◌≤ℤ◌};
+ghost use Rattle.spectral.specs.Lsp.{Frequencies};
+ghost use Rattle.spectral.proofs.Frequencies.{frequencies_prop};
+
 mod enhancement;
 mod frame;
 mod subframe;
@@ -11,7 +15,7 @@ use lpc::Rows;
 use pitch::PitchLag;
 
 // The core's part of the state: fields 0 to 174 of the record, in its order.
-#[derive(Clone, Copy)]
+#[derive(Clone, Copy, Default)]
 pub struct Core {
     // previous LSP (Q15)
     pub lsp: [i16; 10],
@@ -22,19 +26,22 @@ pub struct Core {
     pub history: [i16; 10],
 }
 
-// What a subframe is decoded from.
+// What a subframe is decoded from. The checks of a call show that the lag lies in 19..=144 and that the pitch gain is not negative.
 #[derive(Clone, Copy)]
 pub struct Parameters {
     pub lag: PitchLag,
     pub pitch: Q14,
     pub code: Q1,
     pub innovation: Q13,
+    pub ghost lawful: { (19 ≤ lag.samples) × (lag.samples ≤ 144) },
+    pub ghost gain: { pos 0 ≤ℤ pitch.0 },
 }
 
-// What a frame is decoded from: ten LSFs and four subframes.
+// What a frame is decoded from: ten LSFs, each in 0..=16384, and four subframes.
 #[derive(Drop)]
 pub struct Inputs {
     pub lsfs: [i16; 10],
+    pub ghost frequencies: { Frequencies lsfs } by { frequencies_prop lsfs },
     pub a: Parameters,
     pub b: Parameters,
     pub c: Parameters,
@@ -66,17 +73,11 @@ pub struct SubframeOutput {
     pub next: Core,
 }
 
-// The four subframes, each from the state that the one before left.
-#[derive(Drop)]
-pub struct SubframesOutput {
-    pub places: [usize; 4],
-    pub samples: [i16; 160],
-    pub next: Core,
-}
-
-// The rows of a frame, and what its subframes give.
+// The rows of a frame, what its subframes give together, and the core's state after it.
 #[derive(Drop)]
 pub struct CoreOutput {
     pub rows: Rows,
-    pub subframes: SubframesOutput,
+    pub places: [usize; 4],
+    pub samples: [i16; 160],
+    pub next: Core,
 }

@@ -1,7 +1,7 @@
 // The subframe step: excitation, and synthesis with its retry.
 ghost use Rattle.std.specs.Prelude.{◌≡◌};
 ghost use Rattle.decoder.specs.Subframe.{synthesis_result, synthesis_output};
-ghost use Rattle.decoder.specs.Inputs.{subframe_of, UsableSubframe};
+ghost use Rattle.decoder.specs.Inputs.{subframe_of};
 ghost use Rattle.decoder.specs.Core.{excitations, subframe_result, subframe_output};
 
 use super::enhancement::first_excitation;
@@ -10,6 +10,7 @@ use basicop::Q14;
 use synthesis::{Filtered, Output};
 
 // Syn_filt on the first excitation; where a step clamps, feedback and past are quartered and it runs again on that feedback.
+#[tactic(auto, using(crate::proofs::Synthesis::result_retried, crate::proofs::Synthesis::result_unretried))]
 fn synthesise(
     row: [i16; 11],
     feedback: [i16; 40],
@@ -21,16 +22,13 @@ fn synthesise(
 {
     let Output { samples, place } = synthesis::preview(row, excitation, history);
     if place < 40 {
-        let mut quarter = feedback;
-        basicop::quarter(&mut quarter);
-        let mut quarter_past = past;
-        basicop::quarter(&mut quarter_past);
-        let Filtered { samples, .. } = synthesis::filter(row, quarter, history);
+        let feedback = basicop::quartered(feedback);
+        let Filtered { samples, .. } = synthesis::filter(row, feedback, history);
         return SynthesisOutput {
             place,
             samples,
-            feedback: quarter,
-            past: excitation::take_in(quarter_past, quarter),
+            feedback,
+            past: excitation::take_in(basicop::quartered(past), feedback),
         };
     }
     SynthesisOutput {
@@ -41,9 +39,9 @@ fn synthesise(
     }
 }
 
-// Asks that the lag lies in 19..=144.
+// The excitation, from the past and the sharpening that the subframe before left.
+#[tactic(auto, using(crate::proofs::Subframes::excitations_are))]
 fn excite(past: [i16; 154], sharpening: Q14, p: Parameters) -> Excitations
-    requires { UsableSubframe (subframe_of p) }
     ensures { result ≡ (excitations past sharpening.0 (subframe_of p)).value }
 {
     let adaptive = adaptive::predict(past, p.lag);
@@ -57,8 +55,8 @@ fn excite(past: [i16; 154], sharpening: Q14, p: Parameters) -> Excitations
 }
 
 // The subframe step.
+#[tactic(auto, using(crate::proofs::Subframes::subframe_is))]
 pub fn decode_subframe(core: &Core, row: [i16; 11], p: Parameters) -> SubframeOutput
-    requires { UsableSubframe (subframe_of p) }
     ensures { result ≡ subframe_output (subframe_result core.now row (subframe_of p)) }
 {
     let Excitations {

@@ -1,9 +1,8 @@
 -- What agc2 and agc give: as many samples, each of 16 bits, and a gain in range. Assumes nothing.
 use mathlib.Core.Path.{◌≡◌, refl, sym, ap}
 use mathlib.Core.Bool.{Bool, true, false}
-use mathlib.Core.List.{List, [], ◌∷◌, map}
-use Prim.Native.Nat.{ℕ, zero, suc}
-use lib.Dec.{lit<}
+use mathlib.Core.List.{List, [], ◌∷◌}
+use Prim.Native.Nat.{ℕ, suc}
 use lib.IntN.{ℤ, pos}
 use lib.ListN.{length, length-map}
 use lib.Signed.{◌≤ℤ◌, ◌<ℤ◌, le_z, le_z_yes}
@@ -12,6 +11,7 @@ use mir.Val.{SFits}
 use Rattle.lists.specs.Lists.{eq_z, at}
 use Rattle.lists.proofs.Entries.{length_tab, each_tab}
 use Rattle.basicop.specs.Ops.{asr, div_s, l_mult}
+use Rattle.basicop.proofs.Words.{zero_fits}
 use Rattle.basicop.proofs.Range.{sfits_wider}
 use Rattle.basicop.proofs.Clamp.{clamp_fits}
 use Rattle.basicop.proofs.Fits.{l_mult_fits, l_shl_fits, extract_h_fits}
@@ -21,7 +21,7 @@ use Rattle.energy.specs.Energy.{squares, energy}
 use Rattle.energy.specs.Gain.{gain_out, gain_in, energy_gain, scaled_by, target, smoothed, controlled, agc2, agc}
 use Rattle.energy.specs.declared.Controlled.{Controlled}
 use Rattle.energy.proofs.Tests.{eq_z_yes, not_zero}
-use Rattle.energy.proofs.Sums.{Energetic, energy_range}
+use Rattle.energy.proofs.Sums.{Energetic, energy_range, energy_none}
 use Rattle.energy.proofs.Gains.{Gain, gain_divides_lem, gain_from_in, gain_none, gain_some}
 use Rattle.energy.proofs.control.Smoothing.{Goal, target_in, smoothed_in, smoothed_top, smoothed_forty}
 use Rattle.energy.proofs.control.Controls.{agc2_none, agc2_some, agc_none, agc_some}
@@ -46,11 +46,11 @@ pub goal_in : (into out : List ℤ) → pos 0 <ℤ energy out → Goal (goal_of 
 goal_in into out p = target_in _ (energy_gain_in (energy out) (energy into) p (energy_range out).fits (energy_range into))
 
 -- ---- by the output's energy, which is 0 or above 0
-energy_case : (P : Type 0) (out : List ℤ) → (energy out ≤ℤ pos 0 → P) → (pos 0 <ℤ energy out → P) → P
+energy_case : (P : Type 0) (out : List ℤ) → (energy out ≡ pos 0 → P) → (pos 0 <ℤ energy out → P) → P
 energy_case P out silent loud = go (le_z (energy out) (pos 0)) refl
   where
     go : (t : Bool) → le_z (energy out) (pos 0) ≡ t → P
-    go true e = silent (at_most_yes e)
+    go true e = silent (energy_none out (at_most_yes e))
     go false e = loud (at_most_no (energy out) (pos 0) e)
 
 -- ---- the samples
@@ -68,19 +68,6 @@ agc_length gain into out =
     energy_case (length (agc gain into out).value.samples ≡ length out) out (λ h. rw (← agc_none gain into out h) refl)
     (λ p. rw (← agc_some gain into out p) (length_tab _ (length out)))
 
-each_map : (P : ℤ → Type 0) → P (pos 0) → (f : ℤ → ℤ) → ((x : ℤ) → P (f x)) → (xs : List ℤ) (i : ℕ) → P (at (map f xs) i)
-each_map P none f p [] i = none
-each_map P none f p (x ∷ xs) zero = p x
-each_map P none f p (x ∷ xs) (suc i) = each_map P none f p xs i
-
-zero_fits : SFits w16 (pos 0)
-zero_fits = record { sfits = lit< tt }
-
-pub agc2_fits : (into out : List ℤ) → ((i : ℕ) → SFits w16 (at out i)) → (i : ℕ) → SFits w16 (at (agc2 into out).value i)
-agc2_fits into out f i =
-    energy_case (SFits w16 (at (agc2 into out).value i)) out (λ h. rw (← agc2_none into out h) (f i))
-    (λ p. rw (← agc2_some into out p) (each_map (SFits w16) zero_fits _ (scaled_fits _) out i))
-
 pub agc_fits : (gain : ℤ) (into out : List ℤ) → ((i : ℕ) → SFits w16 (at out i)) → (i : ℕ) → SFits w16 (at (agc gain into out).value.samples i)
 unfolding controlled
 agc_fits gain into out f i =
@@ -96,7 +83,7 @@ pub gain_of_sample : (gain : ℤ) → Gain gain → (into out : List ℤ) → po
 gain_of_sample gain from into out p k = ((smoothed_in _ gain (goal_in into out p) from (suc k)).from, smoothed_top _ gain (goal_in into out p) from k)
 
 module _ (gain : ℤ) (from : Gain gain) (into out : List ℤ) where
-  none : energy out ≤ℤ pos 0 → pos 0 ≡ gain_after gain into out
+  none : energy out ≡ pos 0 → pos 0 ≡ gain_after gain into out
   none h = ap (λ (c : Controlled). c.control.previous_gain) (agc_none gain into out h)
 
   some : (p : pos 0 <ℤ energy out) → smoothed (goal_of into out) (length out) gain ≡ gain_after gain into out
@@ -116,9 +103,9 @@ module _ (gain : ℤ) (from : Gain gain) (into out : List ℤ) where
       (λ p. rw (← some p, l) (smoothed_forty _ gain (goal_in into out p) from))
 
 -- after any number
-empty : energy [] ≤ℤ pos 0
+empty : energy [] ≡ pos 0
 unfolding energy squares asr
-empty = le_z_yes tt
+empty = refl
 
 pub gain_after_top : (gain : ℤ) → Gain gain → (into out : List ℤ) → gain_after gain into out ≤ℤ pos 32765
 gain_after_top gain from into [] = rw (← none gain from into [] empty) (le_z_yes tt)

@@ -1,18 +1,17 @@
 -- energy_new: squares never fall, so that the sum clamped at each step is the exact one, held once. Assumes nothing.
 use mathlib.Core.Path.{◌≡◌, refl, sym, ap, ◌∙◌}
 use mathlib.Core.List.{List, [], ◌∷◌, foldl}
-use Prim.Native.Nat.{ℕ, min, ◌+◌, ◌*◌, ◌≤◌, ◌<◌}
+use Prim.Native.Nat.{ℕ, suc, min, ◌+◌, ◌*◌, ◌≤◌, ◌<◌}
 use native.Mathlib.Nat.{mul-le-mul, le_refl, not-suc-le-zero}
 use native.Mathlib.Omega.{arith}
 use lib.IntN.{ℤ, pos, negsuc, nat_abs, ◌*ℤ◌}
 use lib.ListN.{length}
-use lib.Signed.{◌≤ℤ◌, ◌<ℤ◌, mag}
+use lib.Signed.{◌≤ℤ◌, ◌<ℤ◌, mag, nat_abs-le}
 use mir.Syntax.{w32}
 use mir.Val.{SFits}
 use Rattle.lists.specs.Lists.{eq_z, at}
 use Rattle.basicop.specs.Ops.{clamp, asr, quartered, l_mult, l_mac}
 use Rattle.basicop.proofs.Ints.{arith_ℤ, le_in, ≤ℤ_antisym}
-use Rattle.basicop.proofs.Range.{nat_abs_in}
 use Rattle.basicop.proofs.Shift.{asr_same}
 use Rattle.basicop.proofs.Clamp.{clamp_pos}
 use Rattle.basicop.proofs.Naturals.{asr_pos, l_add_pos}
@@ -32,7 +31,15 @@ square_is (negsuc a) = refl
 
 -- the greatest is (-32768)²
 pub square_most : (x : ℤ) → mag x < 32768 → 2 * (nat_abs x * nat_abs x) ≤ 2147483648
-square_most x h = omega (arith, mul-le-mul (nat_abs_in x h) (nat_abs_in x h))
+square_most x h = omega (arith, mul-le-mul (nat_abs-le x h) (nat_abs-le x h))
+
+-- of numbers of 16 bits each square is at most that
+exact_from : (xs : List ℤ) (a : ℕ) → ((i : ℕ) → i < length xs → mag (at xs i) < 32768) → foldl with_square a xs ≤ a + length xs * 2147483648
+exact_from [] a h = omega arith
+exact_from (x ∷ xs) a h = omega (arith, exact_from xs (with_square a x) (λ i l. h (suc i) (omega arith)), square_most x (h 0 (omega arith)))
+
+pub exact_most : (xs : List ℤ) → ((i : ℕ) → i < length xs → mag (at xs i) < 32768) → exact xs ≤ length xs * 2147483648
+exact_most xs h = omega (arith, exact_from xs 0 h)
 
 mac_is : (a : ℕ) (x : ℤ) → l_mac (pos (min a 2147483647)) x x ≡ pos (min (with_square a x) 2147483647)
 unfolding l_mult

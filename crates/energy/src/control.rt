@@ -3,11 +3,11 @@ ghost use Rattle.std.specs.Prelude.{◌≡◌};
 ghost use Rattle.energy.specs.Gain.{smooth, controlled, agc, together};
 
 use crate::gain::{energy_gain, scale};
-use crate::sum::energy;
 use crate::{Controlled, GainControl};
 use basicop::{Q12, add, mult};
 
 // the gain of a sample, from that of the sample before it
+#[tactic(auto, using(basicop::proofs::Calls::read_back))]
 fn smooth(gain: Q12, goal: Q12) -> Q12
     ensures { result.0 ≡ smooth goal.0 gain.0 }
 {
@@ -32,38 +32,24 @@ fn smoothed(samples: [i16; 40], gain: Q12, goal: Q12) -> Controlled
 }
 
 // agc: the output, brought to the energy of the input by the smoothed gain.
-fn agc(control: GainControl, input: [i16; 40], output: [i16; 40]) -> Controlled
+pub fn control_gain(control: GainControl, input: [i16; 40], output: [i16; 40]) -> Controlled
     ensures { result ≡ (agc control.previous_gain input output).value }
 {
-    let output_energy = energy(output);
-    if output_energy <= 0 {
+    let Some(gain) = energy_gain(input, output) else {
         return Controlled {
             samples: output,
             control: GainControl { previous_gain: 0 },
         };
-    }
-    let gain = energy_gain(input, output_energy);
+    };
     let goal = Q12(mult(gain.0, 3276));
     smoothed(output, Q12(control.previous_gain), goal)
 }
 
-// agc with the smoothed gain lent by the caller and updated there.
+// The same with the smoothed gain lent by the caller and updated there.
 pub fn process(control: &mut GainControl, input: [i16; 40], output: [i16; 40]) -> [i16; 40]
     ensures { together result control.new ≡ (agc control.old.previous_gain input output).value }
 {
-    let made = agc(*control, input, output);
-    control.previous_gain = made.control.previous_gain;
+    let made = control_gain(*control, input, output);
+    *control = made.control;
     made.samples
-}
-
-// agc for a caller with a gain control by value, which is lent to `process`.
-pub fn control_gain(control: GainControl, input: [i16; 40], output: [i16; 40]) -> Controlled
-    ensures { result ≡ (agc control.previous_gain input output).value }
-{
-    let mut lent = control;
-    let samples = process(&mut lent, input, output);
-    Controlled {
-        samples,
-        control: lent,
-    }
 }

@@ -1,5 +1,5 @@
 // The gain between two energies, and agc2 of TS 26.073.
-ghost use Rattle.std.specs.Prelude.{◌≡◌, map, pos, ◌<ℤ◌};
+ghost use Rattle.std.specs.Prelude.{◌≡◌, MatchOption, map, pos, ◌<ℤ◌};
 ghost use Rattle.basicop.specs.Ops.{l_shl, l_shr, round, div_s};
 ghost use Rattle.energy.specs.Energy.{energy};
 ghost use Rattle.energy.specs.Gain.{gain_out, gain_in, ratio, energy_gain, scaled_by, agc2};
@@ -10,6 +10,7 @@ use basicop::{Q12, div_s, extract_h, l_mult, l_shl, l_shr, norm_l, round, sub};
 use std::array;
 
 // a number, shifted and rounded to its high word
+#[tactic(auto, using(basicop::proofs::Calls::read_back))]
 fn rounded(value: i32, shift: i16) -> i16
     ensures { result ≡ round (l_shl value shift) }
 {
@@ -35,20 +36,23 @@ fn energy_ratio(output_energy: i32, input_energy: i32) -> i32
     scaled_ratio(div_s(gain_out, gain_in), sub(exponent, input_exponent))
 }
 
-// The gain that brings samples of the output's energy to that of the input.
-// `match_energy` and `agc` test that the output's energy is not 0.
-pub fn energy_gain(input: [i16; 40], output_energy: i32) -> Q12
-    requires { pos 0 <ℤ output_energy }
-    ensures { result.0 ≡ (energy_gain output_energy (energy input)).value }
+// The gain that brings the output to the energy of the input, where the output's is not 0.
+pub fn energy_gain(input: [i16; 40], output: [i16; 40]) -> Option<Q12>
+    ensures { MatchOption result (energy output ≡ pos 0) (λ gain. (pos 0 <ℤ energy output) × (gain.0 ≡ (energy_gain (energy output) (energy input)).value)) }
 {
+    let output_energy = energy(output);
+    if output_energy <= 0 {
+        return None;
+    }
     let input_energy = energy(input);
     if input_energy <= 0 {
-        return Q12(0);
+        return Some(Q12(0));
     }
     let ratio = energy_ratio(output_energy, input_energy);
-    Q12(rounded(inverse_sqrt(ratio), 9))
+    Some(Q12(rounded(inverse_sqrt(ratio), 9)))
 }
 
+#[tactic(auto, using(basicop::proofs::Calls::read_back))]
 pub fn scale(sample: i16, gain: Q12) -> i16
     ensures { result ≡ scaled_by gain.0 sample }
 {
@@ -65,10 +69,8 @@ fn scaled(samples: [i16; 40], gain: Q12) -> [i16; 40]
 pub fn match_energy(input: [i16; 40], output: [i16; 40]) -> [i16; 40]
     ensures { result ≡ (agc2 input output).value }
 {
-    let output_energy = energy(output);
-    if output_energy <= 0 {
-        return output;
+    match energy_gain(input, output) {
+        Some(gain) => scaled(output, gain),
+        None => output,
     }
-    let gain = energy_gain(input, output_energy);
-    scaled(output, gain)
 }

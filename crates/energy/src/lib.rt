@@ -13,7 +13,7 @@ pub use root::inverse_sqrt;
 pub use sum::{energy, squares};
 
 // The smoothed gain (Q12), carried from subframe to subframe.
-#[derive(Clone, Copy)]
+#[derive(Clone, Copy, Default)]
 pub struct GainControl {
     pub previous_gain: i16,
 }

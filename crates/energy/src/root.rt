@@ -43,7 +43,6 @@ pub fn inverse_sqrt(value: i32) -> i32
     }
     let n = normalization(value);
     let scaled = normalized(value, n);
-    let table = INVERSE_TABLE;
-    let between = interpolate(&table, locate(scaled >> 9, 16));
+    let between = interpolate(&INVERSE_TABLE, locate(scaled >> 9, 16));
     between >> ((30 - n) / 2 + 1)
 }

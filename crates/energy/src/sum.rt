@@ -2,7 +2,7 @@
 ghost use Rattle.std.specs.Prelude.{◌≡◌, ◌*◌, ◌≤◌, nat_abs, length};
 ghost use Rattle.energy.specs.Energy.{squares, energy};
 
-use basicop::{clamp32, quarter};
+use basicop::{clamp32, quartered};
 
 fn doubled_square(sample: i16) -> u64
     ensures { (result ≡ 2 * (nat_abs sample * nat_abs sample)) × (result ≤ 2147483648) }
@@ -16,10 +16,7 @@ pub fn squares(samples: &[i16]) -> i32
     requires { length samples.now ≤ 65536 }
     ensures { result ≡ squares samples.now }
 {
-    let mut sum: u64 = 0;
-    for sample in samples {
-        sum += doubled_square(*sample);
-    }
+    let sum: u64 = samples.iter().map(|sample| doubled_square(*sample)).sum();
     clamp32(sum as i64)
 }
 
@@ -30,9 +27,7 @@ pub fn energy(samples: [i16; 40]) -> i32
     let sum = squares(&samples);
     let at_limit = 2147483646 < sum;
     if at_limit {
-        let mut quartered = samples;
-        quarter(&mut quartered);
-        return squares(&quartered);
+        return squares(&quartered(samples));
     }
     sum >> 4
 }

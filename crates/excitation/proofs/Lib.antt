@@ -1,3 +1,3 @@
--- Sharpening: the loop that sharpens in place. Ranges: what the numbers lie in, and how many there are.
+-- Sharpening: the loop that sharpens in place. Ranges: how many numbers there are, and what they lie in.
 pub mod Sharpening
 pub mod Ranges

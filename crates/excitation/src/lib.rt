@@ -9,6 +9,7 @@ use basicop::{Q1, Q13, Q14, Q15};
 use std::array;
 
 // A sample of the sharpened innovation, from the one a lag before it.
+#[tactic(auto, using(basicop::proofs::Calls::read_back))]
 fn sharper(code: i16, before: i16, doubled: Q15) -> i16
     ensures { result ≡ add code (mult before doubled.0) }
 {
@@ -36,6 +37,7 @@ pub fn next_sharpening(pitch: Q14) -> Q14
 }
 
 // A sample of the feedback.
+#[tactic(auto, using(basicop::proofs::Calls::read_back))]
 fn fed_back(adaptive: i16, innovation: i16, pitch: Q14, code: Q1) -> i16
     ensures { result ≡ feedback_at pitch.0 code.0 adaptive innovation }
 {

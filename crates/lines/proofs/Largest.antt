@@ -10,7 +10,8 @@ use lib.Signed.{lt_z, ◌≤ℤ◌, ◌<ℤ◌}
 use Rattle.std.specs.Int.{int_max}
 use Rattle.std.proofs.lemmas.Int.{int_max_is}
 use Rattle.lists.specs.Lists.{at}
-use Rattle.basicop.proofs.Ints.{eq_in, arith_ℤ}
+use borrow.Author.Differences.{same_in}
+use Rattle.basicop.proofs.Ints.{arith_ℤ}
 use Rattle.basicop.proofs.Tests.{less_yes, less_no}
 use Rattle.lines.specs.Lines.{larger, largest}
 
@@ -25,7 +26,7 @@ larger_by P a b f g = go (lt_z a b) refl
 
 -- std's `max`
 pub max_is_larger : (a b : ℤ) → int_max a b ≡ larger a b
-max_is_larger a b = larger_by (λ (z : ℤ). int_max a b ≡ z) a b (λ h. eq_in _ _ (omega (arith_ℤ, int_max_is a b))) (λ h. eq_in _ _ (omega (arith_ℤ, int_max_is a b)))
+max_is_larger a b = larger_by (λ (z : ℤ). int_max a b ≡ z) a b (λ h. same_in _ _ (omega (arith_ℤ, int_max_is a b))) (λ h. same_in _ _ (omega (arith_ℤ, int_max_is a b)))
 
 larger_over : (a b : ℤ) → (a ≤ℤ larger a b) × (b ≤ℤ larger a b)
 larger_over a b = larger_by (λ (z : ℤ). (a ≤ℤ z) × (b ≤ℤ z)) a b (λ h. (omega arith_ℤ, omega arith_ℤ)) (λ h. (omega arith_ℤ, omega arith_ℤ))
@@ -45,7 +46,7 @@ four_under a b c d =
     (larger_under c d m (omega (arith_ℤ, r.0, s.1)) (omega (arith_ℤ, r.1, t.1)))
 
 pub larger_four : (a b c d : ℤ) → larger (larger a b) (larger c d) ≡ larger (larger a c) (larger b d)
-larger_four a b c d = eq_in _ _ (omega (arith_ℤ, four_under a b c d, four_under a c b d))
+larger_four a b c d = same_in _ _ (omega (arith_ℤ, four_under a b c d, four_under a c b d))
 
 -- ---- the largest of a list
 fold_keeps : (P : ℤ → Type 0) (x : ℤ) (xs : List ℤ) → P x → ((i : ℕ) → i < length xs → P (at xs i)) → P (foldl larger x xs)

@@ -6,15 +6,16 @@ use Prim.Native.Nat.{ℕ, zero, suc, ◌<◌, ◌≤◌}
 use native.Mathlib.Omega.{arith}
 use lib.IntN.{ℤ, pos, negsuc, neg_ℤ, nat_abs}
 use lib.ListN.{length, length-map}
-use lib.Signed.{lt_z, ◌≤ℤ◌, ◌<ℤ◌}
+use lib.Signed.{lt_z, ◌≤ℤ◌, ◌<ℤ◌, nat_abs-le}
 use mir.Syntax.{w16}
 use mir.Val.{SFits}
 use Rattle.std.specs.Int.{int_max}
 use Rattle.std.specs.List.{list_any, fold}
 use Rattle.lists.specs.Lists.{at, minus}
 use Rattle.lists.proofs.Entries.{at_map}
-use Rattle.basicop.proofs.Ints.{neg_up, neg_dn, arith_ℤ}
-use Rattle.basicop.proofs.Range.{nat_abs_in, nat_abs_is}
+use borrow.Author.Differences.{neg_is}
+use Rattle.basicop.proofs.Ints.{arith_ℤ}
+use Rattle.basicop.proofs.Range.{nat_abs_is}
 use Rattle.basicop.proofs.Tests.{yes_less, no_less}
 use Rattle.lines.specs.Lines.{larger, largest, distance, peak_of, any_of, mark_of, integer}
 use Rattle.lines.specs.Peaks.{PeakSides, PeakUnsigned, MarkSides}
@@ -49,7 +50,7 @@ peak_over xs i h = subst (λ (z : ℤ). z ≤ℤ largest (map distance xs)) (sym
 
 -- the peak of 16-bit numbers
 pub peak_most : (xs : List ℤ) → ((i : ℕ) → SFits w16 (at xs i)) → nat_abs (peak_of xs) ≤ 32768
-peak_most xs f = peak_keeps (λ (z : ℤ). nat_abs z ≤ 32768) (omega arith) xs (λ i. omega (arith, nat_abs_in (at xs i) (f i).sfits))
+peak_most xs f = peak_keeps (λ (z : ℤ). nat_abs z ≤ 32768) (omega arith) xs (λ i. omega (arith, nat_abs-le (at xs i) (f i).sfits))
 
 pub peak_unsigned : PeakUnsigned
 unfolding integer
@@ -93,7 +94,7 @@ larger_below : (a b c : ℤ) → b <ℤ c → lt_z (larger a b) c ≡ lt_z a c
 larger_below a b c h = larger_by (λ (z : ℤ). lt_z z c ≡ lt_z a c) a b (λ l. yes_less b c h ∙ sym (yes_less a c (omega (arith_ℤ, l, h)))) (λ l. refl)
 
 negated_below : (z : ℤ) → minus 32760 <ℤ z → neg_ℤ z <ℤ pos 32760
-negated_below z h = omega (arith_ℤ, h, neg_up z, neg_dn z)
+negated_below z h = omega (arith_ℤ, h, neg_is z)
 
 distance_from : (z : ℤ) → z ≤ℤ minus 32760 → pos 32760 ≤ℤ distance z
 distance_from z h = omega (arith_ℤ, h, nat_abs_is z)

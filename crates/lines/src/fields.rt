@@ -1,38 +1,39 @@
-// A line, and its fields: what is put comes after the bytes that are there.
+// A text of bytes with room for so many, and the fields that are put into it, each after the bytes that are there.
 ghost use Rattle.std.specs.Prelude.{◌≡◌, [], ◌∷◌, ◌++◌, map, ◌+◌, ◌<◌, ◌≤◌, length};
 ghost use Rattle.lines.specs.Lines.{decimal, integer, flag_digit};
-ghost use Rattle.lines.specs.Room.{line_room};
 
+use itoa::Buffer;
 use std::marker::Model;
 
-// A line has room for so many bytes: more than any line of the programs has.
+// The room of a line: more than any line of the programs has.
 pub const LINE_ROOM: usize = 128;
 
-// The bytes of a line, as far as it is made.
+pub type Line = Text<LINE_ROOM>;
+
+// The bytes of a text, as far as it is made.
 #[derive(Drop)]
-pub struct Line {
-    bytes: [u8; LINE_ROOM],
+pub struct Text<const ROOM: usize> {
+    bytes: [u8; ROOM],
     count: usize,
 }
 
-impl Model for Line {
+impl<const ROOM: usize> Model for Text<ROOM> {
     ghost use Rattle.std.specs.Prelude.{List, ℕ, ◌≤◌, take};
-    ghost use Rattle.lines.specs.Room.{line_room};
 
     ghost Value = { List ℕ };
 
-    ghost view = { λ l. take l.count l.bytes };
+    ghost view = { λ t. take t.count t.bytes };
 
-    ghost invariant = { λ l. l.count ≤ line_room };
+    ghost invariant = { λ t. t.count ≤ ROOM };
 }
 
-impl Line {
-    // The line of no bytes.
-    pub fn new() -> Line
+impl<const ROOM: usize> Text<ROOM> {
+    // The text of no bytes.
+    pub fn new() -> Self
         ensures { result ≡ [] }
     {
-        Line {
-            bytes: [0; LINE_ROOM],
+        Text {
+            bytes: [0; ROOM],
             count: 0,
         }
     }
@@ -44,7 +45,7 @@ impl Line {
     }
 
     pub fn push(&mut self, byte: u8)
-        requires { length self.old < line_room }
+        requires { length self.old < ROOM }
         ensures { self.new ≡ self.old ++ byte ∷ [] }
     {
         self.bytes[self.count] = byte;
@@ -52,49 +53,40 @@ impl Line {
     }
 
     pub fn extend_from_slice(&mut self, bytes: &[u8])
-        requires { length self.old + length bytes.now ≤ line_room }
+        requires { length self.old + length bytes.now ≤ ROOM }
         ensures { self.new ≡ self.old ++ bytes.now }
     {
         let end = self.count + bytes.len();
-        self.bytes[self.count..end].copy_from_slice(bytes);
+        let room = &mut self.bytes[..];
+        room[self.count..end].copy_from_slice(bytes);
         self.count = end;
     }
 
-    // The digits before the last, then the last.
-    fn push_digits(&mut self, n: u64)
-        requires { length self.old + length (decimal n) ≤ line_room }
-        ensures { self.new ≡ self.old ++ decimal n }
-    {
-        if n >= 10 {
-            self.push_digits(n / 10);
-        }
-        self.push(b'0' + (n % 10) as u8);
-    }
-
     // The digits of a number.
+    #[tactic(auto, using(crate::proofs::Decimals::decimal_digits))]
     pub fn push_decimal(&mut self, n: u64)
-        requires { length self.old + 20 ≤ line_room }
+        requires { length self.old + 20 ≤ ROOM }
         ensures line { self.new ≡ self.old ++ decimal n }
         ensures within { length self.new ≤ length self.old + 20 }
     {
-        self.push_digits(n);
+        let mut digits = Buffer::new();
+        self.extend_from_slice(digits.format(n).as_bytes());
     }
 
     // A minus sign where the number is negative, which no peak is, and the digits.
+    #[tactic(auto, using(crate::proofs::Decimals::integer_digits))]
     pub fn push_integer(&mut self, x: i32)
-        requires { length self.old + 21 ≤ line_room }
+        requires { length self.old + 21 ≤ ROOM }
         ensures line { self.new ≡ self.old ++ integer x }
         ensures within { length self.new ≤ length self.old + 21 }
     {
-        if x < 0 {
-            self.push(b'-');
-        }
-        self.push_decimal(u64::from(x.unsigned_abs()));
+        let mut digits = Buffer::new();
+        self.extend_from_slice(digits.format(x).as_bytes());
     }
 
     // The four flags, written together.
     pub(crate) fn push_flags(&mut self, flags: [bool; 4])
-        requires { length self.old + 4 ≤ line_room }
+        requires { length self.old + 4 ≤ ROOM }
         ensures { self.new ≡ self.old ++ map flag_digit flags }
     {
         for flag in flags {

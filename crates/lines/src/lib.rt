@@ -7,7 +7,7 @@ ghost use Rattle.lines.specs.Lines.{frame_line, refused_line, cut_line, state_li
 mod fields;
 mod marks;
 
-pub use fields::{LINE_ROOM, Line};
+pub use fields::{LINE_ROOM, Line, Text};
 pub use marks::{mark, peak};
 
 // An accepted sheet: its number, four flags, peak and mark.

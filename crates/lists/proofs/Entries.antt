@@ -4,10 +4,10 @@ use mathlib.Core.Path.{◌≡◌, refl, sym, ap, ◌∙◌}
 use mathlib.Core.List.{List, [], ◌∷◌, ◌++◌, map}
 use mathlib.Core.Logic.{⊎_elim}
 use native.Mathlib.Numerals.{add-one}
-use native.Mathlib.Nat.{zero-add, suc-add, add_comm, not-suc-le-zero, le_of_suc-le-suc, eq-or-lt_of_le}
+use native.Mathlib.Nat.{add_comm, not-suc-le-zero, le_of_suc-le-suc, eq-or-lt_of_le}
 use native.Mathlib.Omega.{arith}
 use lib.ListN.{length, take, drop, get_or, length-append, length-drop, get_or-append}
-use lib.Seq.{get_or_at, get_or-drop, get_or-take, get_or-append-add, length-take-le, take_all, take-nil}
+use lib.Seq.{get_or_at, get_or-drop, get_or-take, get_or-append-add, length-take-le, take_all}
 use lib.IntN.{ℤ, pos}
 use Rattle.lists.specs.Lists.{at, tab, pairwise, Every}
 
@@ -130,9 +130,3 @@ stretch_at xs k n i h = sym (get_or-take n (drop k xs) i (pos 0) h ∙ get_or-dr
 -- of a list of k + n, those from number k on
 pub stretch_end : {A : Type 0} (xs : List A) (k n : ℕ) → length xs ≡ k + n → take n (drop k xs) ≡ drop k xs
 stretch_end xs k n l = take_all n (drop k xs) (rw (length-drop k xs) (omega (arith, l)))
-
--- the same, of a list that is cut after them
-pub stretch_taken : {A : Type 0} (k n : ℕ) (xs : List A) → drop k (take (k + n) xs) ≡ take n (drop k xs)
-stretch_taken zero n xs = ap (λ (m : ℕ). take m xs) (zero-add n)
-stretch_taken (suc k) n [] = ap (drop (suc k)) (take-nil (suc k + n)) ∙ sym (take-nil n)
-stretch_taken (suc k) n (x ∷ xs) = ap (λ (m : ℕ). drop (suc k) (take m (x ∷ xs))) (suc-add k n) ∙ stretch_taken k n xs

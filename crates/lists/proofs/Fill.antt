@@ -1,12 +1,12 @@
 -- A loop that fills an array from the front: after i turns it agrees with the wanted list in the first i places.
 -- Assumes nothing.
-use Prim.Native.Nat.{ℕ, ◌+◌, ◌-◌, ◌≤◌, ◌<◌}
+use Prim.Native.Nat.{ℕ, ◌+◌, ◌≤◌, ◌<◌}
 use mathlib.Core.Path.{◌≡◌, refl, sym, ◌∙◌}
-use mathlib.Core.List.{List, ◌++◌}
+use mathlib.Core.List.{List}
 use native.Mathlib.Numerals.{add-one}
 use native.Mathlib.Omega.{arith}
-use lib.ListN.{length, set, take, length-set, length-append}
-use lib.Seq.{set-get_or, get_or-set_other, take_at, length-take-le, take-suc, take-suc-set, take_all}
+use lib.ListN.{length, set, take, length-set}
+use lib.Seq.{set-get_or, get_or-set_other, take-suc, take-suc-set, take_all}
 use lib.IntN.{ℤ, pos}
 use Rattle.lists.specs.Lists.{at}
 
@@ -38,16 +38,6 @@ fill_done {n} {src = src} f e = rw e at f.same ∙ take_all n src (omega (arith,
 
 pub fill_whole : {n : ℕ} {src out : List ℤ} {i : ℕ} → Filled n n src out i → i ≡ n → out ≡ src
 fill_whole {n} {src} {out} f e = sym (take_all n out (omega (arith, f.room))) ∙ fill_done f e
-
--- a second loop goes on where a first stopped, at n: what stands there is kept, and ys comes after it
-pub fill_on : {m n : ℕ} {out : List ℤ} (ys : List ℤ) → length out ≡ m → n ≤ m → length ys ≡ m - n → Filled m m (take n out ++ ys) out n
-fill_on {m} {n} {out} ys lo h ly =
-    let lt : length (take n out) ≡ n = length-take-le n out (omega (arith, lo)) in
-    record {
-      source = length-append (take n out) ys ∙ rw (lt, ly) (omega arith);
-      room = lo;
-      same = sym (take_at (take n out) ys n lt);
-    }
 
 -- ---- an array that is changed in place: from i on it is as it came
 pub record Untouched (xs out : List ℤ) (i : ℕ) : Type 0 where

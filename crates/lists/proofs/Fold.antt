@@ -1,28 +1,11 @@
--- A loop that folds an array: what is left to fold from here gives the whole. Assumes nothing.
-use Prim.Native.Nat.{ℕ, ◌+◌, ◌<◌}
-use mathlib.Core.Path.{◌≡◌}
-use mathlib.Core.List.{List, foldl}
-use native.Mathlib.Numerals.{add-one}
+-- A fold over a list, by what stands after each of its entries. Assumes nothing.
+use Prim.Native.Nat.{ℕ, suc, ◌<◌}
+use mathlib.Core.Path.{◌≡◌, refl}
+use mathlib.Core.List.{List, [], ◌∷◌, foldl}
 use native.Mathlib.Omega.{arith}
-use lib.ListN.{length, drop, drop_of_length-le}
-use lib.Seq.{drop-cons}
-use lib.IntN.{ℤ, pos}
-use Rattle.lists.specs.Lists.{at}
+use lib.ListN.{length, get_or}
 
-pub record Folding {S : Type 0} (f : S → ℤ → S) (xs : List ℤ) (n : ℕ) (all s : S) (i : ℕ) : Type 0 where
-  pub source : length xs ≡ n
-  pub rest : foldl f s (drop i xs) ≡ all
-
-pub fold_none : {S : Type 0} {f : S → ℤ → S} {xs : List ℤ} {n : ℕ} {s s' : S} → length xs ≡ n → s ≡ s' → Folding f xs n (foldl f s' xs) s 0
-fold_none l e = record { source = l; rest = rw e }
-
-pub fold_more : {S : Type 0} {f : S → ℤ → S} {xs : List ℤ} {n : ℕ} {all s s' : S} {i : ℕ} → Folding f xs n all s i → s' ≡ f s (at xs i) → i < n → Folding f xs n all s' (i + 1)
-fold_more {f = f} {xs} {n} {all} {s} {s'} {i} r e l =
-    let lx : i < length xs = omega (arith, r.source) in
-    record {
-      source = r.source;
-      rest = rw (add-one, e) (rw (drop-cons xs i (pos 0) lx) at r.rest);
-    }
-
-pub fold_done : {S : Type 0} {f : S → ℤ → S} {xs : List ℤ} {n : ℕ} {all s : S} {i : ℕ} → Folding f xs n all s i → i ≡ n → s ≡ all
-fold_done {xs = xs} {i = i} r e = rw (drop_of_length-le xs {i = i} (omega (arith, r.source))) at r.rest
+-- t k is what stands after k entries
+pub fold_counted : {A S : Type 0} (f : S → A → S) (t : ℕ → S) (xs : List A) → ((k : ℕ) (d : A) → k < length xs → t (suc k) ≡ f (t k) (get_or xs k d)) → foldl f (t 0) xs ≡ t (length xs)
+fold_counted f t [] e = refl
+fold_counted f t (x ∷ xs) e = rw (← e 0 x (omega arith)) (fold_counted f (λ k. t (suc k)) xs (λ k d h. e (suc k) d (omega arith)))

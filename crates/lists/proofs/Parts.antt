@@ -4,7 +4,7 @@ use mathlib.Core.Path.{◌≡◌, refl, ap, ◌∙◌}
 use mathlib.Core.List.{List, [], ◌∷◌}
 use native.Mathlib.Omega.{arith}
 use lib.ListN.{length, take, drop, get_or, length-drop, take-append-drop}
-use lib.Seq.{length-take-le, take_at, drop_at, take_all, get_or-take, get_or-drop, drop-drop}
+use lib.Seq.{length-take-le, take_at, drop_at, take_all, get_or-take, get_or-drop}
 use Rattle.lists.specs.Parts.{joined, total, cut, part_at}
 
 module _ {A : Type 0} where
@@ -45,15 +45,6 @@ module _ {A : Type 0} where
   at_cut (n ∷ ns) xs (suc k) i d h =
       let e : n + (total (take k ns) + i) ≡ n + total (take k ns) + i = omega arith in
       at_cut ns (drop n xs) k i d h ∙ get_or-drop n xs (total (take k ns) + i) d ∙ ap (λ (j : ℕ). get_or xs j d) e
-
-  -- the parts as stretches, each from where it starts
-  abbrev pub stretches : ℕ → List ℕ → List A → List (List A)
-  stretches k [] xs = []
-  stretches k (n ∷ ns) xs = take n (drop k xs) ∷ stretches (k + n) ns xs
-
-  pub stretches_cut : (k : ℕ) (ns : List ℕ) (xs : List A) → stretches k ns xs ≡ cut ns (drop k xs)
-  stretches_cut k [] xs = refl
-  stretches_cut k (n ∷ ns) xs = rw (drop-drop n k xs) (ap (λ (ps : List (List A)). take n (drop k xs) ∷ ps) (stretches_cut (k + n) ns xs))
 
 -- a part of one entry is that entry
 pub one_entry : {A : Type 0} (p : List A) (d : A) → length p ≡ 1 → get_or p 0 d ∷ [] ≡ p

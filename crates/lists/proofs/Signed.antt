@@ -2,7 +2,7 @@
 -- Assumes nothing.
 use Prim.Native.Nat.{ℕ, zero, suc, ◌<◌, ◌^◌}
 use mathlib.Core.Path.{◌≡◌, ◌∙◌}
-use mathlib.Core.List.{List, [], ◌∷◌, map, map-id}
+use mathlib.Core.List.{List, [], ◌∷◌}
 use lib.IntN.{ℤ}
 use lib.Signed.{mag}
 use lib.Pow.{pow_pos}
@@ -29,9 +29,6 @@ each_in w (x ∷ xs) [] p i = absurd p
 each_in w (x ∷ xs) (u ∷ us) p zero = p.0.1
 each_in w (x ∷ xs) (u ∷ us) p (suc i) = each_in w xs us p.1 i
 
--- the same as records, which `search (needs, entry_fits, field_fits)` finds: of an array, and of a field that is one
+-- the same as a record, which `search (needs, entry_fits)` finds
 pub entry_fits : (w : Width) (xs : List ℤ) (us : List Val) (i : ℕ) → shadow (each ℤ (SInt w).own_val xs us) → SFits w (at xs i)
 entry_fits w xs us i p = record { sfits = each_in w xs us p i }
-
-pub field_fits : (w : Width) (xs : List ℤ) (us : List Val) (i : ℕ) → shadow (each ℤ (SInt w).own_val (map (λ (v : ℤ). v) xs) us) → SFits w (at xs i)
-field_fits w xs us i p = entry_fits w xs us i (rw (map-id xs) at p)

@@ -1,7 +1,7 @@
 -- A rule of a table of integers, proved at all of its entries by one test that antt computes, one entry after the other.
 -- Assumes nothing.
 use mathlib.Core.Path.{◌≡◌, ◌∙◌, subst, sym, ap}
-use mathlib.Core.Bool.{Bool, true, false}
+use mathlib.Core.Bool.{Bool, true, false, ◌&&◌}
 use mathlib.Core.List.{List, [], ◌∷◌}
 use mathlib.Core.Logic.{⊎_elim}
 use Prim.Native.Nat.{ℕ, zero, suc, ◌+◌, ◌<◌}
@@ -11,29 +11,21 @@ use lib.IntN.{ℤ, pos, negsuc}
 use lib.ListN.{length}
 use Rattle.lists.specs.Lists.{at, eq_z}
 
-abbrev pub both : Bool → Bool → Bool
-both true b = b
-both false b = false
-
-pub both_left : (a b : Bool) → T (both a b) → T a
-both_left true b t = tt
-both_left false b t = t
-
-pub both_right : (a b : Bool) → T (both a b) → T b
-both_right true b t = t
-both_right false b t = absurd t
+pub both_pass : (a b : Bool) → T (a && b) → T a × T b
+both_pass true b t = (tt, t)
+both_pass false b t = absurd t
 
 -- the test f passes at each entry of the list and its place, counted from i
 abbrev pub every : (ℕ → ℤ → Bool) → ℕ → List ℤ → Bool
 every f i [] = true
-every f i (x ∷ xs) = both (f i x) (every f (suc i) xs)
+every f i (x ∷ xs) = f i x && every f (suc i) xs
 
 from : (f : ℕ → ℤ → Bool) (xs : List ℤ) (i : ℕ) → T (every f i xs) → (k : ℕ) → k < length xs → T (f (i + k) (at xs k))
 from f [] i t k h = absurd (not-suc-le-zero h)
-from f (x ∷ xs) i t zero h = subst (λ (m : ℕ). T (f m x)) (sym (add-zero i)) (both_left (f i x) (every f (suc i) xs) t)
+from f (x ∷ xs) i t zero h = subst (λ (m : ℕ). T (f m x)) (sym (add-zero i)) (both_pass (f i x) (every f (suc i) xs) t).0
 from f (x ∷ xs) i t (suc k) h =
     subst (λ (m : ℕ). T (f m (at xs k))) (suc-add i k ∙ sym (add-suc i k))
-    (from f xs (suc i) (both_right (f i x) (every f (suc i) xs) t) k (le_of_suc-le-suc h))
+    (from f xs (suc i) (both_pass (f i x) (every f (suc i) xs) t).1 k (le_of_suc-le-suc h))
 
 pub at_each : (f : ℕ → ℤ → Bool) (xs : List ℤ) → T (every f 0 xs) → (k : ℕ) → k < length xs → T (f k (at xs k))
 at_each f xs t k h = subst (λ (m : ℕ). T (f m (at xs k))) (zero-add k) (from f xs 0 t k h)
@@ -48,12 +40,12 @@ eq_z→eq (negsuc a) (negsuc b) t = ap negsuc (eqb→eq a b t)
 -- ---- a rule of every number below n, by one test that antt computes
 abbrev pub all_below : (ℕ → Bool) → ℕ → Bool
 all_below f zero = true
-all_below f (suc n) = both (f n) (all_below f n)
+all_below f (suc n) = f n && all_below f n
 
 pub below_each : (f : ℕ → Bool) (n : ℕ) → T (all_below f n) → (k : ℕ) → k < n → T (f k)
 below_each f zero t k h = absurd (not-suc-le-zero h)
 below_each f (suc n) t k h =
     ⊎_elim
-    (λ (e : k ≡ n). rw e (both_left (f n) (all_below f n) t))
-    (λ (l : k < n). below_each f n (both_right (f n) (all_below f n) t) k l)
+    (λ (e : k ≡ n). rw e (both_pass (f n) (all_below f n) t).0)
+    (λ (l : k < n). below_each f n (both_pass (f n) (all_below f n) t).1 k l)
     (eq-or-lt_of_le (le_of_suc-le-suc h))

@@ -6,7 +6,8 @@ use lib.Signed.{shr_z}
 use mir.Syntax.{w16}
 use mir.Val.{SFits}
 use Rattle.basicop.specs.Ops.{asr, add, sub}
-use Rattle.basicop.proofs.Ints.{arith_ℤ, sfits_by, add_is, sub_ℤ_is}
+use borrow.Author.Differences.{sum_is_lem}
+use Rattle.basicop.proofs.Ints.{arith_ℤ, sfits_by, sub_ℤ_is}
 use Rattle.basicop.proofs.Shift.{shr_is, mod_z_lt}
 use Rattle.basicop.proofs.Clamp.{clamp_id}
 use Rattle.lpc.specs.Rows.{blend0, blend1, blend2}
@@ -14,7 +15,7 @@ use Rattle.lpc.specs.Rows.{blend0, blend1, blend2}
 module _ (x y : ℤ) (f : SFits w16 x) (g : SFits w16 y) where
   half : SFits w16 (asr x 1 +ℤ asr y 1)
   unfolding asr
-  half = sfits_by (omega (arith_ℤ, add_is (shr_z x 2) (shr_z y 2), shr_is x 2 (lit< tt), shr_is y 2 (lit< tt), mod_z_lt x 2 (lit< tt), mod_z_lt y 2 (lit< tt)))
+  half = sfits_by (omega (arith_ℤ, sum_is_lem (shr_z x 2) (shr_z y 2), shr_is x 2 (lit< tt), shr_is y 2 (lit< tt), mod_z_lt x 2 (lit< tt), mod_z_lt y 2 (lit< tt)))
 
   rest : SFits w16 (y -ℤ asr y 2)
   unfolding asr
@@ -23,7 +24,7 @@ module _ (x y : ℤ) (f : SFits w16 x) (g : SFits w16 y) where
   whole : SFits w16 (asr x 2 +ℤ (y -ℤ asr y 2))
   unfolding asr
   whole =
-      sfits_by (omega (arith_ℤ, add_is (shr_z x 4) (y -ℤ shr_z y 4), sub_ℤ_is y (shr_z y 4), shr_is x 4 (lit< tt), shr_is y 4 (lit< tt), mod_z_lt x 4 (lit< tt), mod_z_lt y 4 (lit< tt)))
+      sfits_by (omega (arith_ℤ, sum_is_lem (shr_z x 4) (y -ℤ shr_z y 4), sub_ℤ_is y (shr_z y 4), shr_is x 4 (lit< tt), shr_is y 4 (lit< tt), mod_z_lt x 4 (lit< tt), mod_z_lt y 4 (lit< tt)))
 
   pub blend1_is : blend1 x y ≡ asr x 1 +ℤ asr y 1
   unfolding add

@@ -42,7 +42,16 @@ step_is f r n h l =
     rw (add-one, take-suc-set f n (at f (n - 2)) l, length-append (take n f), k, get_or-take n f (n - 2) (pos 0) (omega arith)) (ap (tab _) (sym (add-one n)))
 
 -- ---- the recursion on the degree
-every_second_at : (q : List ℤ) (o k : ℕ) → k < 5 → at q (o + 2 * k) ≡ at (every_second o q) k
+pub polynomial_more : (q : List ℤ) (d : ℕ) (f : List ℤ) {r : List ℤ} → 2 ≤ d → take (d - 1 + 1) f ≡ polynomial q (d - 1 - 1) → r ≡ raised (take d f) (at q (d - 1)) → r ≡ polynomial q (d - 1)
+unfolding polynomial
+polynomial_more q d f h ef er =
+    let i : d - 1 + 1 ≡ d = omega arith in
+    let j : d - 1 - 1 ≡ d - 2 = omega arith in
+    let m : d - 1 ≡ suc (d - 2) = omega arith in
+    er ∙ rw (rw (i, j) at ef, m)
+
+-- ---- every second of ten
+pub every_second_at : (q : List ℤ) (o k : ℕ) → k < 5 → at q (o + 2 * k) ≡ at (every_second o q) k
 every_second_at q o zero h = ap (at q) (omega arith)
 every_second_at q o (suc zero) h = refl
 every_second_at q o (suc (suc zero)) h = refl
@@ -52,11 +61,3 @@ every_second_at q o (suc (suc (suc (suc (suc k))))) h = absurd (past h)
   where
     past : suc (suc (suc (suc (suc k)))) < 5 → ⊥
     past h = omega arith
-
-pub polynomial_more : (q : List ℤ) (o d : ℕ) (f : List ℤ) {r : List ℤ} {l : ℤ} → 2 ≤ d → d ≤ 5 → take (d - 1 + 1) f ≡ polynomial (every_second o q) (d - 1 - 1) → l ≡ at q (o + 2 * (d - 1)) → r ≡ raised (take d f) l → r ≡ polynomial (every_second o q) (d - 1)
-unfolding polynomial
-polynomial_more q o d f h k ef el er =
-    let i : d - 1 + 1 ≡ d = omega arith in
-    let j : d - 1 - 1 ≡ d - 2 = omega arith in
-    let m : d - 1 ≡ suc (d - 2) = omega arith in
-    er ∙ rw (rw (i, j) at ef, el, every_second_at q o (d - 1) (omega arith), m)

@@ -63,6 +63,10 @@ row f g = pos 4096 ∷ (tab (λ (k : ℕ). front f g (k + 1)) 5 ++ tab (λ (k : 
 unfoldable pub row_of : List ℤ → List ℤ
 row_of q = row (polynomial (every_second 0 q) 4) (polynomial (every_second 1 q) 4)
 
+-- four rows, one a subframe
+abbrev pub row_list : Rows → List (List ℤ)
+row_list rows = rows.a ∷ rows.b ∷ rows.c ∷ rows.d ∷ []
+
 -- the four rows of a frame, from the LSPs of the frame before and its own
 unfoldable pub rows_of : List ℤ → List ℤ → Rows
 rows_of old new =

@@ -2,7 +2,7 @@
 #![tactic(auto)]
 
 ghost use Rattle.std.specs.Prelude.{◌≡◌, ◌+◌, ◌-◌, ◌<◌, ◌≤◌, take};
-ghost use Rattle.lpc.specs.Rows.{blend1, blend2, raised_from, raised, polynomial, every_second, coefficient, row, row_of, rows_of};
+ghost use Rattle.lpc.specs.Rows.{blend1, blend2, raised_from, raised, polynomial, every_second, coefficient, row, row_of, row_list, rows_of};
 
 use basicop::{
     Q15, add, extract_l, l_add, l_extract, l_msu, l_shl, l_shr_r, l_sub, mpy_32_16, shr, sub,
@@ -10,12 +10,22 @@ use basicop::{
 use std::array;
 
 // Four rows of eleven coefficients (Q12), one for each subframe.
-#[derive(Clone, Copy)]
+#[derive(Clone, Copy, PartialEq, Eq, Debug, Default)]
 pub struct Rows {
     pub a: [i16; 11],
     pub b: [i16; 11],
     pub c: [i16; 11],
     pub d: [i16; 11],
+}
+
+// The rows in the order of the subframes.
+impl From<Rows> for [[i16; 11]; 4] {
+    ghost from_gives = { λ rows list. list ≡ row_list rows };
+
+    fn from(rows: Rows) -> [[i16; 11]; 4] {
+        let Rows { a, b, c, d } = rows;
+        [a, b, c, d]
+    }
 }
 
 // a quarter of one LSP and three quarters of the other: subframe 2, and subframe 0 with the two exchanged
@@ -58,17 +68,20 @@ fn raise(f: [i32; 6], root: Q15, degree: usize) -> [i32; 6]
     r
 }
 
-// The polynomial of the degree over every second LSP from `offset` on.
+// The polynomial of the degree over the first roots. Above the degree the array holds anything.
 // `convert` shows the bounds, and at each lower degree the call itself.
-fn polynomial(lsp: [i16; 10], offset: usize, degree: usize) -> [i32; 6]
-    requires { (offset < 2) × ((1 ≤ degree) × (degree ≤ 5)) }
-    ensures { take (degree + 1) result ≡ polynomial (every_second offset lsp) (degree - 1) }
+fn polynomial(roots: [i16; 5], degree: usize) -> [i32; 6]
+    requires { (1 ≤ degree) × (degree ≤ 5) }
+    ensures { take (degree + 1) result ≡ polynomial roots (degree - 1) }
 {
     if degree == 1 {
-        return [16777216, l_msu(0, lsp[offset], 512), 0, 0, 0, 0];
+        return [16777216, l_msu(0, roots[0], 512), 0, 0, 0, 0];
     }
-    let lower = polynomial(lsp, offset, degree - 1);
-    raise(lower, Q15(lsp[offset + 2 * (degree - 1)]), degree)
+    raise(
+        polynomial(roots, degree - 1),
+        Q15(roots[degree - 1]),
+        degree,
+    )
 }
 
 // A coefficient (Q12) of a sum (Q24): rounded, and its low 16 bits kept.
@@ -92,12 +105,20 @@ fn row(f: [i32; 6], g: [i32; 6]) -> [i16; 11]
     r
 }
 
+// Every second LSP, from the one at `offset` on.
+fn every_second(lsp: [i16; 10], offset: usize) -> [i16; 5]
+    requires { offset < 2 }
+    ensures { result ≡ every_second offset lsp }
+{
+    array::from_fn(|k| lsp[offset + 2 * k])
+}
+
 // Lsp_Az: a row from ten LSPs.
 pub fn convert(lsp: [i16; 10]) -> [i16; 11]
     ensures { result ≡ row_of lsp }
 {
-    let f = polynomial(lsp, 0, 5);
-    let g = polynomial(lsp, 1, 5);
+    let f = polynomial(every_second(lsp, 0), 5);
+    let g = polynomial(every_second(lsp, 1), 5);
     row(f, g)
 }
 

@@ -1,14 +1,14 @@
 -- The groups of checks of a frame call: what each has shown where it accepts, and the places of its refusals. Assumes nothing.
-use Prim.Native.Nat.{ℕ, suc, ◌+◌, ◌≤◌, ◌<◌}
+use Prim.Native.Nat.{ℕ, zero, suc, ◌+◌, ◌≤◌, ◌<◌}
 use mathlib.Core.Path.{◌≡◌}
 use mathlib.Core.Bool.{true}
 use mathlib.Core.List.{List, [], ◌∷◌, ◌++◌}
 use native.Mathlib.Numerals.{add-one}
 use native.Mathlib.Omega.{arith}
 use lib.IntN.{ℤ, pos, ◌+ℤ◌}
-use lib.ListN.{length, take, drop, length-drop}
-use lib.Seq.{length-take-le, get_or-take}
-use lib.Signed.{◌≤ℤ◌}
+use lib.ListN.{length, take, drop}
+use lib.Seq.{get_or-take}
+use lib.Signed.{◌≤ℤ◌, le_z_yes}
 use borrow.Author.Tests.{eqb-true, ltb-false, not-false}
 use Rattle.lists.specs.Lists.{at}
 use Rattle.lists.proofs.Entries.{stretch_at}
@@ -25,15 +25,21 @@ use Rattle.state.proofs.Checks.{state_placed}
 use Rattle.mr74.specs.Sheet.{lsfs_of, gains_of}
 use Rattle.mr74.specs.Checks.{length_checks, lsf_checks, pitch_checks, gain_checks, sheet_checks, frame_checks, frame_outcome, GapsKept}
 
--- the numbers of a sheet that a group tests are as many as it says
-pub stretch_length : (sheet : List ℤ) (from n : ℕ) → from + n ≤ length sheet → length (take n (drop from sheet)) ≡ n
-stretch_length sheet from n h = length-take-le n (drop from sheet) (simp length-drop (omega (arith, h)))
-
 -- ---- what a group has shown
 pub lengths_accept : (count numbers room : ℕ) → is_accepted (first_met (length_checks count numbers room)) ≡ true → (numbers ≡ count) × (room ≡ 160)
 lengths_accept count numbers room h =
     let u = none_met (length_checks count numbers room) h in
     (eqb-true numbers count (not-false _ u.0), eqb-true room 160 (not-false _ u.1.0))
+
+abbrev pub pitch_limits : List ℤ
+pitch_limits = pos 255 ∷ pos 31 ∷ pos 255 ∷ pos 31 ∷ []
+
+pub limits_byte : (k : ℕ) → at pitch_limits k ≤ℤ pos 255
+limits_byte zero = le_z_yes tt
+limits_byte (suc zero) = le_z_yes tt
+limits_byte (suc (suc zero)) = le_z_yes tt
+limits_byte (suc (suc (suc zero))) = le_z_yes tt
+limits_byte (suc (suc (suc (suc k)))) = le_z_yes tt
 
 module _ (sheet : List ℤ) where
   pub lsfs_accept : length (lsfs_of sheet) ≡ 10 → is_accepted (first_met (lsf_checks sheet)) ≡ true → Frequencies (lsfs_of sheet)
@@ -57,9 +63,6 @@ module _ (sheet : List ℤ) where
   -- the numbers from a place of the sheet on
   ranges_at : (from n : ℕ) (limits : List ℤ) → n ≤ first_outside (take n (drop from sheet)) limits → (k : ℕ) → k < n → (pos 0 ≤ℤ at sheet (from + k)) × (at sheet (from + k) ≤ℤ at limits k)
   ranges_at from n limits h k l = rw (stretch_at sheet from n k l) (in_ranges (take n (drop from sheet)) limits k (omega arith))
-
-  abbrev pitch_limits : List ℤ
-  pitch_limits = pos 255 ∷ pos 31 ∷ pos 255 ∷ pos 31 ∷ []
 
   pub pitch_accept : is_accepted (first_met (pitch_checks sheet)) ≡ true → (k : ℕ) → k < 4 → (pos 0 ≤ℤ at sheet (10 + k)) × (at sheet (10 + k) ≤ℤ at pitch_limits k)
   pitch_accept h = ranges_at 10 4 pitch_limits (ltb-false _ 4 (none_met (pitch_checks sheet) h).0)

@@ -9,6 +9,7 @@ use lib.ListN.{length}
 use lib.Seq.{length-take-le}
 use lib.Signed.{◌≤ℤ◌}
 use Rattle.lists.specs.Lists.{at}
+use Rattle.basicop.proofs.Ints.{≤ℤ_trans}
 use Rattle.spectral.specs.Lsp.{Frequencies}
 use Rattle.outcome.specs.Outcome.{is_accepted}
 use Rattle.outcome.specs.Checks.{first_met}
@@ -18,7 +19,7 @@ use Rattle.state.specs.State.{state_checks}
 use Rattle.state.proofs.Checks.{InRange, in_range}
 use Rattle.mr74.specs.Checks.{length_checks, lsf_checks, pitch_checks, gain_checks, sheet_checks, frame_outcome, GapsKept, AcceptedGaps}
 use Rattle.mr74.specs.Sheet.{lsfs_of}
-use Rattle.mr74.proofs.Groups.{lengths_accept, lsfs_accept, gaps_accept, pitch_accept, gains_accept}
+use Rattle.mr74.proofs.Groups.{lengths_accept, lsfs_accept, gaps_accept, limits_byte, pitch_accept, gains_accept}
 
 -- a sheet that its checks have accepted: its four indices,
 pub record Indices (sheet : List ℤ) : Type 0 where
@@ -40,13 +41,19 @@ module _ (sheet : List ℤ) (h : is_accepted (first_met (sheet_checks sheet)) �
       let a = both_accept (lsf_checks sheet) (pitch_checks sheet ++ gain_checks sheet) h in
       (a.0, both_accept (pitch_checks sheet) (gain_checks sheet) a.1)
 
+  pub index_byte : (k : ℕ) → k < 4 → (pos 0 ≤ℤ at sheet (10 + k)) × (at sheet (10 + k) ≤ℤ pos 255)
+  index_byte k l = let r = pitch_accept sheet groups.1.0 k l in (r.0, ≤ℤ_trans r.1 (limits_byte k))
+
+  pub gain_sign : (k : ℕ) → k < 8 → pos 0 ≤ℤ at sheet (14 + k)
+  gain_sign = gains_accept sheet groups.1.1
+
   pub indices : Indices sheet
   indices =
       let index = pitch_accept sheet groups.1.0 in
       record { a = index 0 (omega arith); b = index 1 (omega arith); c = index 2 (omega arith); d = index 3 (omega arith) }
 
   pub ready : length (lsfs_of sheet) ≡ 10 → Ready sheet
-  ready ten = record { lsfs = lsfs_accept sheet ten groups.0; gaps = gaps_accept sheet groups.0; indices = indices; gains = gains_accept sheet groups.1.1 }
+  ready ten = record { lsfs = lsfs_accept sheet ten groups.0; gaps = gaps_accept sheet groups.0; indices = indices; gains = gain_sign }
 
 -- an accepted call
 pub record Passed (sheet : List ℤ) (s : State) (room : ℕ) : Type 0 where

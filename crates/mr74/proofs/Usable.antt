@@ -1,6 +1,6 @@
 -- The inputs of an accepted sheet are usable. Assumes nothing.
 use Prim.Native.Nat.{ℕ, suc, ◌+◌, ◌*◌, ◌≤◌, ◌<◌}
-use mathlib.Core.Path.{◌≡◌, refl, ◌∙◌}
+use mathlib.Core.Path.{◌≡◌, refl, sym, subst, ◌∙◌}
 use mathlib.Core.List.{List, [], ◌∷◌}
 use native.Mathlib.Omega.{arith}
 use lib.Dec.{leb→le, lit≤}
@@ -10,7 +10,8 @@ use lib.Signed.{◌≤ℤ◌}
 use Rattle.lists.specs.Lists.{at, Every}
 use Rattle.lists.proofs.Entries.{every_append}
 use Rattle.basicop.proofs.Ints.{arith_ℤ}
-use Rattle.pitch.specs.Lag.{Lag, absolute, relative}
+use Rattle.pitch.specs.declared.PitchLag.{PitchLag}
+use Rattle.pitch.specs.Lag.{Lag, absolute, relative, lag_of}
 use Rattle.pitch.proofs.Lags.{Lawful, absolute_lawful, relative_lawful}
 use Rattle.decoder.specs.Inputs.{UsableSubframe, Usable}
 use Rattle.state.specs.declared.State.{State}
@@ -28,6 +29,20 @@ relative_range (negsuc n) l h w = absurd h.0.le
 
 pair_lawful : (n m : ℤ) → (pos 0 ≤ℤ n) × (n ≤ℤ pos 255) → (pos 0 ≤ℤ m) × (m ≤ℤ pos 31) → Every Lawful (lag_pair n m)
 pair_lawful n m h k = let a = absolute_range n h in (a, (relative_range m (absolute n) k a, tt))
+
+-- the code's lags of two subframes
+abbrev pub InRange : PitchLag → Type 0
+InRange l = (19 ≤ l.samples) × (l.samples ≤ 144)
+
+lag_in : (l : PitchLag) → Lawful (lag_of l) → InRange l
+lag_in l w = (omega (arith_ℤ, w.is, w.from), omega (arith_ℤ, w.is, w.to))
+
+-- by their indices i and j, the second after the first
+pub pair_in : (k l : PitchLag) {i j : ℕ} {n m : ℤ} → pos i ≡ n → pos j ≡ m → lag_of k ≡ absolute (pos i) → lag_of l ≡ relative (pos j) (lag_of k).samples
+    → (pos 0 ≤ℤ n) × (n ≤ℤ pos 255) → (pos 0 ≤ℤ m) × (m ≤ℤ pos 31) → InRange k × InRange l
+pair_in k l ei ej ek el h g =
+    let a = subst Lawful (sym ek) (absolute_range _ (rw ei h)) in
+    (lag_in k a, lag_in l (subst Lawful (sym el) (relative_range _ (lag_of k) (rw ej g) a)))
 
 -- ---- the subframes from k on
 from : (sheet : List ℤ) → ((k : ℕ) → k < 8 → pos 0 ≤ℤ at sheet (14 + k)) → (k : ℕ) (ls : List Lag) → k + length ls ≤ 4 → Every Lawful ls → Every UsableSubframe (subframes_from sheet k ls)

@@ -73,6 +73,7 @@ fn check_sheet(sheet: &[i16; SHEET]) -> Outcome
 }
 
 // In the frame order 1, 5, 2, 6, 3, 4, 16, 17.
+#[tactic(auto, using(crate::proofs::Order::state_decides))]
 pub fn check_frame(sheet: &[i16], state: State, room: usize) -> Result<CheckedSheet<'_>, Refusal>
     ensures { MatchResult result (λ checked. (frame_outcome sheet.now state room ≡ Ok tt) × (checked.numbers.now ≡ sheet.now)) (λ refusal. frame_outcome sheet.now state room ≡ Err refusal) }
 {

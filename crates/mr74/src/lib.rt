@@ -1,17 +1,17 @@
 // The frame call of MR74.
 #![tactic(auto)]
 
-ghost use Rattle.std.specs.Prelude.{◌≡◌, Err, map};
-ghost use Rattle.decoder.specs.Inputs.{inputs_of, Usable};
+ghost use Rattle.std.specs.Prelude.{◌≡◌, Ok, Err, map};
+ghost use Rattle.decoder.specs.Inputs.{inputs_of};
 ghost use Rattle.decoder.specs.Subframe.{flag_of};
-ghost use Rattle.mr74.specs.Frame.{call_result, frame_call};
-ghost use Rattle.mr74.specs.Inner.{frame_output_of, refused_answer};
+ghost use Rattle.mr74.specs.Frame.{accepted_trace, call_result, result_of, frame_call};
+ghost use Rattle.mr74.specs.Inner.{refused_answer};
 
 mod checks;
 mod sheet;
 
 use checks::check_frame;
-use decoder::{CoreOutput, Inputs, SubframesOutput};
+use decoder::{CoreOutput, Inputs};
 use lpc::Rows;
 use outcome::{Outcome, Refusal};
 use postfilter::Postfiltered;
@@ -19,6 +19,9 @@ use state::State;
 
 // The numbers of a sheet, and of the lent output.
 pub const SHEET: usize = 182;
+
+// The bytes of a sheet, two a number.
+pub const SHEET_BYTES: usize = 2 * SHEET;
 
 pub const SAMPLES: usize = 160;
 
@@ -40,50 +43,38 @@ pub fn flags(places: [usize; 4]) -> [bool; 4]
 }
 
 // ---- the call
-// What an accepted call gives.
-#[derive(Drop)]
-struct FrameOutput {
-    rows: Rows,
-    places: [usize; 4],
-    samples: [i16; SAMPLES],
-    next: State,
-}
-
-// The core of the frame, then the postfilter.
-fn decode(state: State, inputs: Inputs) -> FrameOutput
-    requires { Usable (inputs_of inputs) }
-    ensures { result ≡ frame_output_of (inputs_of inputs) state }
+// The core of the frame, then the postfilter: the answer, and the samples.
+#[tactic(auto, using(crate::proofs::Answers::decoded_are))]
+fn decode(state: State, inputs: Inputs) -> (FrameAnswer, [i16; SAMPLES])
+    ensures { call_result result.0 result.1 ≡ result_of (accepted_trace (Ok tt) (inputs_of inputs) state) }
 {
-    let CoreOutput { rows, subframes } = decoder::decode(state.core, inputs);
-    let SubframesOutput {
+    let CoreOutput {
+        rows,
         places,
         samples: synthesis,
         next: core,
-    } = subframes;
+    } = decoder::decode(state.core, inputs);
     let Postfiltered {
         samples,
         memory: post,
     } = postfilter::process(state.post, synthesis, rows);
-    FrameOutput {
+    let answer = FrameAnswer {
+        outcome: Ok(()),
         rows,
         places,
-        samples,
         next: State { core, post },
-    }
+    };
+    (answer, samples)
 }
 
 // Rows all zero, places 40, the state as it came.
+#[tactic(auto, using(crate::proofs::Answers::zeros))]
 fn refused(refusal: Refusal, state: State) -> FrameAnswer
     ensures { result ≡ refused_answer (Err refusal) state }
 {
     FrameAnswer {
         outcome: Err(refusal),
-        rows: Rows {
-            a: [0; 11],
-            b: [0; 11],
-            c: [0; 11],
-            d: [0; 11],
-        },
+        rows: Rows::default(),
         places: [40; 4],
         next: state,
     }
@@ -96,19 +87,9 @@ pub fn frame(sheet: &[i16], state: State, out: &mut [i16]) -> FrameAnswer
 {
     match check_frame(sheet, state, out.len()) {
         Ok(checked) => {
-            let FrameOutput {
-                rows,
-                places,
-                samples,
-                next,
-            } = decode(state, checked.inputs());
+            let (answer, samples) = decode(state, checked.inputs());
             out.copy_from_slice(&samples);
-            FrameAnswer {
-                outcome: Ok(()),
-                rows,
-                places,
-                next,
-            }
+            answer
         }
         Err(refusal) => refused(refusal, state),
     }

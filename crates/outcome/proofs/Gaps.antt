@@ -6,13 +6,14 @@ use mathlib.Core.List.{List, [], ◌∷◌}
 use native.Mathlib.Numerals.{add-one}
 use native.Mathlib.Omega.{arith}
 use lib.IntN.{ℤ, pos, ◌+ℤ◌, ◌-ℤ◌}
-use lib.ListN.{length, drop, drop_of_length-le}
+use lib.ListN.{length, drop}
 use lib.Seq.{drop-cons}
 use lib.Signed.{◌≤ℤ◌, lt_z}
-use borrow.Author.Tests.{not-true, lt-ltb, le-ltb}
-use Rattle.std.specs.Prelude.{Some, None}
+use borrow.Author.Tests.{not-true, lt-ltb}
+use Rattle.std.specs.Prelude.{Some}
 use Rattle.lists.specs.Lists.{at}
-use Rattle.basicop.proofs.Ints.{arith_ℤ, add_is, sub_ℤ_is}
+use borrow.Author.Differences.{sum_is_lem}
+use Rattle.basicop.proofs.Ints.{arith_ℤ, sub_ℤ_is}
 use Rattle.basicop.proofs.Tests.{less_no}
 use Rattle.outcome.specs.Checks.{apart, found, first_close}
 use Rattle.outcome.proofs.Ranges.{one_more}
@@ -35,17 +36,11 @@ module _ {gap : ℤ} {xs : List ℤ} {before : ℤ} {i : ℕ} (s : Rising gap xs
       let k : first_close gap (pos 0) xs ≡ i = omega (arith, r) in
       rw (k, lt-ltb i (length xs) h)
 
-  pub rising_done : i ≡ length xs → None ≡ found (first_close gap (pos 0) xs) (length xs)
-  unfolding first_close
-  rising_done e =
-      let r : i + 0 ≡ first_close gap (pos 0) xs = rw (drop_of_length-le xs {i = i} (omega (arith, e))) at s.rest in
-      rw (le-ltb (first_close gap (pos 0) xs) (length xs) (omega (arith, r, e)))
-
 -- ---- up to what is found, every number lies at least `gap` above the one before it
 apart_by : (gap before x : ℤ) → apart gap before x ≡ true → (before +ℤ gap) ≤ℤ x
 apart_by gap before x e =
     let h : gap ≤ℤ (x -ℤ before) = less_no (not-true (lt_z (x -ℤ before) gap) e) in
-    omega (arith_ℤ, h, sub_ℤ_is x before, add_is before gap)
+    omega (arith_ℤ, h, sub_ℤ_is x before, sum_is_lem before gap)
 
 pub in_gaps : (gap before : ℤ) (xs : List ℤ) (k : ℕ) → k < first_close gap before xs → (at (before ∷ xs) k +ℤ gap) ≤ℤ at xs k
 unfolding first_close

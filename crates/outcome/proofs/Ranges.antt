@@ -13,14 +13,15 @@ use Rattle.std.specs.Prelude.{Option, Some, None, is_some, position}
 use Rattle.std.specs.List.{zip, position_or_len}
 use Rattle.std.proofs.lemmas.Slice.Zip.{length-zip}
 use Rattle.lists.specs.Lists.{at, Every}
-use Rattle.basicop.proofs.Tests.{less_no, or_left, or_right}
+use Rattle.std.proofs.lemmas.Bool.{or_parts}
+use Rattle.basicop.proofs.Tests.{less_no}
 use Rattle.outcome.specs.Checks.{within, found, first_outside}
 
 -- ---- a number against its limit
 pub in_range : (limit x : ℤ) → within limit x ≡ true → (pos 0 ≤ℤ x) × (x ≤ℤ limit)
 in_range limit x e =
-    let n = not-true (lt_z x (pos 0) || lt_z limit x) e in
-    (less_no (or_left (lt_z x (pos 0)) (lt_z limit x) n), less_no (or_right (lt_z x (pos 0)) (lt_z limit x) n))
+    let n = or_parts (lt_z x (pos 0)) (lt_z limit x) (not-true (lt_z x (pos 0) || lt_z limit x) e) in
+    (less_no n.0, less_no n.1)
 
 -- ---- the search over pairs of a number and its limit
 abbrev pub outside : ℤ × ℤ → Bool

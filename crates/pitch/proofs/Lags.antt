@@ -1,6 +1,6 @@
 -- What the definitions of Lag.antt come to: by one computed test over all 256 indices where an index is in it. Assumes nothing.
 use mathlib.Core.Path.{◌≡◌, refl, ap, ap₂, ◌∙◌}
-use mathlib.Core.Bool.{Bool, true, false, cond}
+use mathlib.Core.Bool.{Bool, true, false, cond, ◌&&◌}
 use Prim.Native.Nat.{ℕ, min, max, ◌+◌, ◌-◌, ◌/◌, ◌%◌, ◌<◌, ◌≤◌}
 use native.Mathlib.Omega.{arith}
 use borrow.Author.Tests.{lt-ltb, le-ltb, ltb-true, ltb-false}
@@ -8,9 +8,10 @@ use lib.Dec.{T, ltb, eqb, lit<, lit≤}
 use lib.IntN.{ℤ, pos, negsuc, ◌+ℤ◌, ◌-ℤ◌}
 use mir.Syntax.{w16}
 use Rattle.lists.specs.Lists.{eq_z}
-use Rattle.lists.proofs.Table.{both, both_left, both_right, below_each, eq_z→eq}
+use Rattle.lists.proofs.Table.{both_pass, below_each, eq_z→eq}
 use Rattle.basicop.specs.Ops.{clamp, asr, add, sub, mult}
-use Rattle.basicop.proofs.Ints.{arith_ℤ, sfits_by, add_is, sub_ℤ_is}
+use borrow.Author.Differences.{sum_is_lem}
+use Rattle.basicop.proofs.Ints.{arith_ℤ, sfits_by, sub_ℤ_is}
 use Rattle.basicop.proofs.Clamp.{clamp_id}
 use Rattle.basicop.proofs.Naturals.{add_pos, sub_pos}
 use Rattle.pitch.specs.Lag.{Lag, absolute, relative, raised_20, lowered_134, lag_min}
@@ -20,14 +21,13 @@ lag_eq p q = ap₂ (λ (s t : ℤ). record { samples = s; thirds = t }) p q
 
 -- two lags are the same, as a test
 same : Lag → Lag → Bool
-same l m = both (eq_z l.samples m.samples) (eq_z l.thirds m.thirds)
+same l m = eq_z l.samples m.samples && eq_z l.thirds m.thirds
 
 same→eq : (l m : Lag) → T (same l m) → l ≡ m
 unfolding same
 same→eq l m t =
-    lag_eq
-    (eq_z→eq l.samples m.samples (both_left (eq_z l.samples m.samples) (eq_z l.thirds m.thirds) t))
-    (eq_z→eq l.thirds m.thirds (both_right (eq_z l.samples m.samples) (eq_z l.thirds m.thirds) t))
+    let p = both_pass (eq_z l.samples m.samples) (eq_z l.thirds m.thirds) t in
+    lag_eq (eq_z→eq l.samples m.samples p.0) (eq_z→eq l.thirds m.thirds p.1)
 
 -- the thirds of a fractional index: 1, -1, 0 for n mod 3 = 0, 1, 2
 abbrev pub thirds_at : ℕ → ℤ
@@ -112,7 +112,7 @@ moved : (q m : ℕ) → q ≤ 85 → 20 ≤ m → m ≤ 134 → add (sub (pos q)
 unfolding add sub
 moved q m h l u =
     let d = sub_ℤ_is (pos q) (pos 1) in
-    let s = add_is (pos q -ℤ pos 1) (pos m) in
+    let s = sum_is_lem (pos q -ℤ pos 1) (pos m) in
     rw (clamp_id w16 (pos q -ℤ pos 1) (sfits_by (omega (arith_ℤ, d)))) (clamp_id w16 ((pos q -ℤ pos 1) +ℤ pos m) (sfits_by (omega (arith_ℤ, d, s))) ∙ omega (arith_ℤ, d, s))
 
 pub relative_is : (n t m : ℕ) → n < 256 → lag_min (pos t) ≡ pos m → 20 ≤ m → m ≤ 134 → relative (pos n) (pos t) ≡ record { samples = pos (m + (n + 2) / 3 - 1); thirds = (relative (pos n) (pos 0)).thirds }

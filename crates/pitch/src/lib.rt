@@ -33,6 +33,7 @@ impl Fraction {
 }
 
 // the fraction of a fractional index
+#[tactic(auto, using(crate::proofs::Lags::thirds_is))]
 fn fraction_of(index: u8) -> Fraction
     ensures { thirds_of result ≡ (relative (pos index) (pos 0)).thirds }
 {
@@ -44,6 +45,7 @@ fn fraction_of(index: u8) -> Fraction
 }
 
 // the least lag that a relative index gives, after the lag `previous`
+#[tactic(auto, using(crate::proofs::Lags::lag_min_is))]
 fn least(previous: u16) -> u16
     ensures value { pos result ≡ lag_min (pos previous) }
     ensures range { (20 ≤ result) × (result ≤ 134) }
@@ -53,6 +55,7 @@ fn least(previous: u16) -> u16
 
 impl PitchLag {
     // Subframes 0 and 2. Every index has a lag; which are sent is the frame call's business.
+    #[tactic(auto, using(crate::proofs::Lags::absolute_below, crate::proofs::Lags::absolute_from))]
     pub fn from_absolute(index: u8) -> PitchLag
         ensures { lag_of result ≡ absolute (pos index) }
     {

@@ -1,22 +1,28 @@
--- The clamped correlation of an impulse response is at most its clamped energy, for every list of numbers. Assumes nothing.
-use mathlib.Core.Path.{◌≡◌, refl, ap, subst}
+-- The correlation of an impulse response: as a fold, and that it is at most the energy, both clamped, for every list of numbers. Assumes nothing.
+use mathlib.Core.Path.{◌≡◌, refl, sym, ap, subst, ◌∙◌}
 use mathlib.Core.Bool.{Bool, true, false}
-use mathlib.Core.List.{List, [], ◌∷◌, foldl-append}
+use mathlib.Core.List.{List, [], ◌∷◌, foldl, foldl-append}
 use Prim.Native.Nat.{ℕ, zero, suc, ◌+◌, ◌*◌, ◌-◌, ◌<◌, ◌≤◌}
 use native.Mathlib.Nat.{le_refl}
 use native.Mathlib.Omega.{arith}
 use borrow.Author.Tests.{leb-true, leb-false}
 use lib.Dec.{leb, lit<}
-use lib.ListN.{length, take}
+use lib.ListN.{length, take, drop, get_or}
 use lib.Seq.{take-length, take-suc}
 use lib.IntN.{ℤ, pos, negsuc, nat_abs, ◌+ℤ◌, ◌*ℤ◌}
 use lib.Signed.{◌≤ℤ◌}
 use mir.Syntax.{Width, w16, w32}
 use mir.Val.{SFits}
+use Rattle.std.specs.List.{zip}
+use Rattle.std.proofs.lemmas.List.{get_or_default}
+use Rattle.std.proofs.lemmas.Slice.Zip.{length-zip, get_or-zip}
 use Rattle.lists.specs.Lists.{at, iter}
-use Rattle.basicop.specs.Ops.{clamp, l_add, l_mult}
+use Rattle.lists.proofs.Entries.{stretch_length, stretch_at}
+use Rattle.lists.proofs.Fold.{fold_counted}
+use Rattle.basicop.specs.Ops.{clamp, l_add, l_mult, l_mac}
 use Rattle.basicop.proofs.Ints.{arith_ℤ}
-use Rattle.basicop.proofs.Range.{nat_abs_mul, nat_abs_is, nat_abs_add}
+use Rattle.std.proofs.lemmas.Int.{unsigned_abs-mul}
+use Rattle.basicop.proofs.Range.{nat_abs_is, nat_abs_add}
 use Rattle.basicop.proofs.Shift.{asr_mono}
 use Rattle.basicop.proofs.Clamp.{clamp_pos, clamp_neg}
 use Rattle.basicop.proofs.Fits.{l_add_fits, extract_h_fits}
@@ -34,7 +40,7 @@ lag_abs : (s a b : ℤ) → nat_abs (l_add s (l_mult a b)) ≤ nat_abs s + 2 * (
 unfolding l_add l_mult
 lag_abs s a b =
     let p = clamp w32 (pos 2 *ℤ (a *ℤ b)) in
-    omega (arith, clamp_abs w32 (s +ℤ p), nat_abs_add s p, clamp_abs w32 (pos 2 *ℤ (a *ℤ b)), nat_abs_mul (pos 2) (a *ℤ b), ap (λ (n : ℕ). 2 * n) (nat_abs_mul a b))
+    omega (arith, clamp_abs w32 (s +ℤ p), nat_abs_add s p, clamp_abs w32 (pos 2 *ℤ (a *ℤ b)), unsigned_abs-mul (pos 2) (a *ℤ b), ap (λ (n : ℕ). 2 * n) (unsigned_abs-mul a b))
 
 -- 2 a b ≤ a a + b b
 am_gm : (a b : ℕ) → 2 * (a * b) ≤ a * a + b * b
@@ -51,6 +57,22 @@ am_gm a b = go (leb a b) refl
     go : (t : Bool) → leb a b ≡ t → 2 * (a * b) ≤ a * a + b * b
     go true e = up_to a b (leb-true a b e)
     go false e = omega (arith, up_to b a (omega (arith, leb-false a b e)))
+
+-- 22 numbers but the last, each beside the next; the correlation is a fold over them
+abbrev pub neighbours : List ℤ → List (ℤ × ℤ)
+neighbours h = zip h (take 21 (drop 1 h))
+
+pub fold_neighbours : (h : List ℤ) → length h ≡ 22 → foldl (λ (s : ℤ) (p : ℤ × ℤ). l_mac s p.0 p.1) (pos 0) (neighbours h) ≡ correlation h
+unfolding correlation iter
+fold_neighbours h l =
+    let next = take 21 (drop 1 h) in
+    let ln : length next ≡ 21 = stretch_length h 1 21 (omega (arith, l)) in
+    let n : length (neighbours h) ≡ length h - 1 = length-zip h next ∙ omega (arith, l, ln) in
+    rw n at (fold_counted (λ (s : ℤ) (p : ℤ × ℤ). l_mac s p.0 p.1) (λ k. iter (correlation_step h) k (pos 0)) (neighbours h) (λ k d b.
+    let i : k < 21 = omega (arith, n, l) in
+    let e : 1 + k ≡ suc k = omega arith in
+    let there : get_or next k d.1 ≡ at h (suc k) = get_or_default next k d.1 (pos 0) (omega (arith, ln)) ∙ rw (← e) (sym (stretch_at h 1 21 k i)) in
+    rw (get_or-zip h next k d (omega (arith, l)) (omega (arith, ln)), get_or_default h k d.0 (pos 0) (omega (arith, l)), there)))
 
 -- one square more
 with_next : (h : List ℤ) (k : ℕ) → k < length h → exact (take (suc k) h) ≡ with_square (exact (take k h)) (at h k)
@@ -86,7 +108,3 @@ r1_le_r0 h = asr_mono (correlation h) (squares h) 16 (correlation_le_squares h)
 
 pub r0_fits : (h : List ℤ) → SFits w16 (r0 h)
 r0_fits h = extract_h_fits (squares h) (squares_range h).fits
-
-pub r1_fits : (h : List ℤ) → SFits w16 (r1 h)
-unfolding correlation
-r1_fits h = extract_h_fits (correlation h) (correlation_fits h (length h - 1))

@@ -1,7 +1,7 @@
 -- A frame by its four subframes. Assumes nothing.
 use Prim.Native.Nat.{ℕ, zero, suc, ◌+◌, ◌-◌, ◌*◌, ◌<◌}
 use mathlib.Core.Path.{◌≡◌, refl, sym, ◌∙◌}
-use mathlib.Core.List.{List, [], ◌∷◌}
+use mathlib.Core.List.{List}
 use native.Mathlib.Numerals.{add-one}
 use native.Mathlib.Omega.{arith}
 use lib.IntN.{ℤ}
@@ -11,17 +11,18 @@ use borrow.Rule.Slice.PartMut.{put_mid}
 use Rattle.lists.specs.Lists.{iter}
 use Rattle.lists.proofs.Put.{put_length, put_front}
 use Rattle.lpc.specs.declared.Rows.{Rows}
+use Rattle.lpc.specs.Rows.{row_list}
 use Rattle.postfilter.specs.declared.Postfilter.{Postfilter}
 use Rattle.postfilter.specs.declared.Postfiltered.{Postfiltered}
 use Rattle.postfilter.specs.Postfilter.{PostfilterResult, filter_result, row_at, part, process_next, process_from, postfilter_result}
 
 -- the rows as one list
-pub row_listed : (rows : Rows) (k : ℕ) (d : List ℤ) → k < 4 → get_or (rows.a ∷ rows.b ∷ rows.c ∷ rows.d ∷ []) k d ≡ row_at rows k
-row_listed rows zero d h = refl
-row_listed rows (suc zero) d h = refl
-row_listed rows (suc (suc zero)) d h = refl
-row_listed rows (suc (suc (suc zero))) d h = refl
-row_listed rows (suc (suc (suc (suc k)))) d h = absurd (omega (arith, h))
+pub row_listed : {list : List (List ℤ)} (rows : Rows) (k : ℕ) (d : List ℤ) → list ≡ row_list rows → k < 4 → get_or list k d ≡ row_at rows k
+row_listed rows zero d e h = rw e
+row_listed rows (suc zero) d e h = rw e
+row_listed rows (suc (suc zero)) d e h = rw e
+row_listed rows (suc (suc (suc zero))) d e h = rw e
+row_listed rows (suc (suc (suc (suc k)))) d e h = absurd (omega (arith, h))
 
 -- ---- the loop over the subframes: after k of them
 abbrev so_far : Postfilter → Rows → List ℤ → ℕ → PostfilterResult

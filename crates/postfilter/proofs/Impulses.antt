@@ -1,4 +1,4 @@
--- The impulse response: its length, its first sample, and how the code comes by it. Assumes nothing.
+-- The impulse response: how the code comes by it, and its first sample. Assumes nothing.
 use Prim.Native.Nat.{ℕ, zero, suc, ◌-◌, ◌<◌}
 use mathlib.Core.Path.{◌≡◌, refl, sym, ◌∙◌}
 use mathlib.Core.List.{List, [], ◌∷◌, ◌++◌, append_assoc}
@@ -8,17 +8,18 @@ use lib.Dec.{lit<}
 use lib.IntN.{ℤ, pos, ◌-ℤ◌, ◌*ℤ◌}
 use lib.ListN.{length, take, replicate, length-append}
 use lib.Seq.{take_at, get_or_at, get_or-take, get_or-drop}
-use mir.Syntax.{w16, w32}
+use mir.Syntax.{w32}
 use mir.Val.{SFits}
 use Rattle.lists.specs.Lists.{at}
 use Rattle.basicop.specs.Ops.{clamp, asr, l_add, l_sub, l_mult, l_shl, round}
-use Rattle.basicop.proofs.Ints.{arith_ℤ, sub_ℤ_is, mul_is}
+use borrow.Author.Differences.{product_is}
+use Rattle.basicop.proofs.Ints.{arith_ℤ, sub_ℤ_is}
 use Rattle.basicop.proofs.Clamp.{clamp_id}
 use Rattle.basicop.proofs.Fits.{l_mult_fits}
 use Rattle.synthesis.specs.Recursion.{recursion}
 use Rattle.synthesis.specs.Synthesis.{acc, sample, samples, first_samples}
 use Rattle.synthesis.proofs.Fed.{fed_starts}
-use Rattle.synthesis.proofs.Samples.{length_samples, samples_fit}
+use Rattle.synthesis.proofs.Samples.{length_samples}
 use Rattle.postfilter.specs.Weight.{numerator, denominator, weighted}
 use Rattle.postfilter.specs.Tilt.{impulse, response}
 
@@ -26,14 +27,6 @@ abbrev zeros : ℕ → List ℤ
 zeros n = replicate n (pos 0)
 
 module _ (num den : List ℤ) where
-  pub impulse_length : length num ≡ 11 → length (impulse num den) ≡ 22
-  unfolding impulse
-  impulse_length l = length_samples 10 den (num ++ zeros 11) (zeros 10) refl ∙ length-append num (zeros 11) ∙ rw l
-
-  pub impulse_fits : (i : ℕ) → SFits w16 (at (impulse num den) i)
-  unfolding impulse
-  impulse_fits = samples_fit 10 den (num ++ zeros 11) (zeros 10) refl
-
   -- the first 22 of forty samples
   pub impulse_first : length num ≡ 11 → take 22 (first_samples 22 10 den (num ++ zeros 29) (zeros 10)) ≡ impulse num den
   unfolding impulse
@@ -63,7 +56,7 @@ at_zeros (suc n) (suc i) = at_zeros n i
 times_zero : (c : ℤ) → l_mult c (pos 0) ≡ pos 0
 unfolding l_mult
 times_zero c =
-    let e : pos 2 *ℤ (c *ℤ pos 0) ≡ pos 0 = omega (arith_ℤ, mul_is (pos 2) (c *ℤ pos 0), mul_is c (pos 0)) in
+    let e : pos 2 *ℤ (c *ℤ pos 0) ≡ pos 0 = omega (arith_ℤ, product_is (pos 2) (c *ℤ pos 0), product_is c (pos 0)) in
     rw e (clamp_id w32 (pos 0) (record { sfits = lit< tt }))
 
 less_zero : (s : ℤ) → SFits w32 s → l_sub s (pos 0) ≡ s

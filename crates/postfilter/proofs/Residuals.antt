@@ -7,7 +7,7 @@ use native.Mathlib.Nat.{le_refl, add_comm}
 use native.Mathlib.Numerals.{add-one}
 use native.Mathlib.Omega.{arith}
 use lib.IntN.{ℤ, pos, nat_abs}
-use lib.Signed.{mag}
+use lib.Signed.{mag, nat_abs-le}
 use Rattle.lists.specs.Lists.{at}
 use lib.ListN.{length, take, drop}
 use lib.Seq.{get_or-take, length-take-le}
@@ -15,7 +15,7 @@ use Rattle.lists.proofs.Entries.{at_drop}
 use Rattle.lists.proofs.Count.{Iter, iter_none, iter_more, iter_same}
 use Rattle.basicop.specs.Ops.{l_mult, l_mac}
 use Rattle.basicop.specs.Inner.{sizes}
-use Rattle.basicop.proofs.Range.{nat_abs_in, mul_bound}
+use Rattle.basicop.proofs.Range.{mul_bound}
 use Rattle.basicop.proofs.Unclamped.{mac_first, sizes_most, Step, step}
 use Rattle.synthesis.specs.Recursion.{ago}
 use Rattle.synthesis.specs.Inner.{weight}
@@ -34,7 +34,7 @@ module _ (a x : List ℤ) (p : ℕ) {plain : Bool} (light : plain ≡ true → w
   module _ (h : mag (at x p) < 2 ^ 15) where
     pub first : plain ≡ true → Step 32768 0 (nat_abs (at a 0)) (pos 0) (at x p) (at a 0)
     unfolding sizes
-    first q = step 32768 0 _ _ _ _ (le_refl 0) (mul_bound (at x p) (at a 0) (nat_abs_in (at x p) h) (le_refl _)) (room 0 (omega arith) q)
+    first q = step 32768 0 _ _ _ _ (le_refl 0) (mul_bound (at x p) (at a 0) (nat_abs-le (at x p) h) (le_refl _)) (room 0 (omega arith) q)
 
     pub summed_none : {s : ℤ} → s ≡ l_mac (pos 0) (at x p) (at a 0) → Summed a x p plain s 0
     unfolding sizes
@@ -48,7 +48,7 @@ module _ (a x : List ℤ) (p : ℕ) {plain : Bool} (light : plain ≡ true → w
     v = at x (p - (j + 1))
 
     pub next : plain ≡ true → Step 32768 (sizes (at a) (j + 1)) (nat_abs c) s c v
-    next q = step 32768 _ _ s c v (r.size q) (omega (arith, mul_bound c v (le_refl _) (nat_abs_in v h))) (room (j + 1) (omega arith) q)
+    next q = step 32768 _ _ s c v (r.size q) (omega (arith, mul_bound c v (le_refl _) (nat_abs-le v h))) (room (j + 1) (omega arith) q)
 
     pub summed_more : {t : ℤ} → t ≡ l_mac s c v → Summed a x p plain t (j + 1)
     unfolding sizes

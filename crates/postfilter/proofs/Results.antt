@@ -48,13 +48,6 @@ divisors n h m a ys t =
     wide : (q : Quotient) → Divides 16384 q → Divides n q
     wide q d = record { from = ≤ℤ_trans (le_in (omega arith)) d.from; to = d.to }
 
--- for every memory, row and samples each lies in 1..=32767; with a first coefficient of 4096 in 512..=32767
-pub divisors_any : (m : Postfilter) (a ys : List ℤ) → Every (Divides 1) (filter_result m a ys).quotients
-divisors_any m a ys = divisors 1 (lit≤ tt) m a ys (tilted a).divisors
-
-pub divisors_row : (m : Postfilter) (a ys : List ℤ) → at a 0 ≡ pos 4096 → Every (Divides 512) (filter_result m a ys).quotients
-divisors_row m a ys e = divisors 512 (lit≤ tt) m a ys ((tilted a).divisors_row e)
-
 -- the tilt is that of the row
 pub tilt_is : (m : Postfilter) (a ys : List ℤ) → (filter_result m a ys).tilt ≡ (tilt a).value
 unfolding filter_result

@@ -19,7 +19,7 @@ use tilting::{impulse, tilt_of};
 use whitening::{residual, weight};
 
 // What a subframe leaves to the next: its last ten inputs, the last ten samples of its second synthesis, its last residual, and the smoothed gain.
-#[derive(Clone, Copy)]
+#[derive(Clone, Copy, Default)]
 pub struct Postfilter {
     pub input_history: [i16; 10],
     pub synthesis_history: [i16; 10],
@@ -40,6 +40,7 @@ const NUMERATOR: [i16; 10] = [18022, 9912, 5451, 2998, 1649, 907, 499, 274, 151,
 const DENOMINATOR: [i16; 10] = [22938, 16057, 11240, 7868, 5508, 3856, 2699, 1889, 1322, 925];
 
 // ---- preemphasis
+#[tactic(auto, using(basicop::proofs::Calls::read_back))]
 fn emphasised(residual: i16, before: i16, tilt: Q15) -> i16
     ensures { result ≡ emphasised tilt.0 residual before }
 {
@@ -129,8 +130,7 @@ pub fn process(memory: Postfilter, samples: [i16; 160], rows: Rows) -> Postfilte
 {
     let mut out = samples;
     let mut carried = memory;
-    let Rows { a, b, c, d } = rows;
-    for (k, row) in [a, b, c, d].iter().enumerate() {
+    for (k, row) in <[[i16; 11]; 4]>::from(rows).iter().enumerate() {
         let from = 40 * k;
         let Postfiltered {
             samples: made,

@@ -17,11 +17,7 @@ pub fn impulse(numerator: [i16; 11], denominator: [i16; 11]) -> [i16; 22]
 fn correlation(h: [i16; 22]) -> i32
     ensures { result ≡ correlation h }
 {
-    let mut s = 0;
-    for (a, b) in h.iter().zip(&h[1..]) {
-        s = l_mac(s, *a, *b);
-    }
-    s
+    h.iter().zip(&h[1..]).fold(0, |s, (a, b)| l_mac(s, *a, *b))
 }
 
 // 26214 is 0.8 (Q15). The correlation is at most the energy, so that the division is in order: `tilt_asks`.

@@ -4,20 +4,17 @@ ghost use Rattle.postfilter.specs.Weight.{weighted};
 ghost use Rattle.postfilter.specs.Residual.{residual_sum, residual_at, residual};
 
 use basicop::{l_mult, l_shl, mac, round};
-use copy::joined;
+use copy::{joined, window};
 use std::array;
-use synthesis::{Row, window};
+use synthesis::Row;
 
 // ---- Weight_Ai
 // Each coefficient but the first by its factor.
 pub fn weight(coefficients: [i16; 11], factors: &[i16; 10]) -> [i16; 11]
     ensures { result ≡ weighted coefficients factors.now }
 {
-    let mut weighted = coefficients;
-    for (i, factor) in factors.iter().enumerate() {
-        weighted[i + 1] = round(l_mult(coefficients[i + 1], *factor));
-    }
-    weighted
+    let weighted: [i16; 10] = array::from_fn(|i| round(l_mult(coefficients[i + 1], factors[i])));
+    joined(&coefficients[..1], &weighted)
 }
 
 // ---- Residu
@@ -35,6 +32,7 @@ fn residual_sum(row: &Row, x: &[i16; 11]) -> i32
 }
 
 // The residual at that input.
+#[tactic(auto, using(basicop::proofs::Calls::read_back))]
 fn residual_at(row: &Row, x: &[i16; 11]) -> i16
     ensures { result ≡ residual_at row.now.coefficients x.now 10 }
 {

@@ -15,7 +15,7 @@ use Rattle.record.specs.Record.{end_of, numbers_in, byte_checks, record_outcome,
 use Rattle.coding.proofs.Bytes.{bytes_back}
 use Rattle.coding.proofs.Laid.{bytes_length}
 use Rattle.record.proofs.Trailers.{trailer_is}
-use Rattle.record.proofs.Reader.{lent_body, bytes_accepted, trailer_accepted, whole, body_length_lem, body_numbers, note_accepted, state_accepted}
+use Rattle.record.proofs.Reader.{lent_body, bytes_accepted, trailer_accepted, whole, body_length_lem, lent_numbers, note_accepted, state_accepted}
 
 -- ---- bytes, and a part of them
 take_bytes : (n : ℕ) (b : List ℕ) → Bytes b → Bytes (take n b)
@@ -37,7 +37,7 @@ module _ (b : List ℕ) (bytes : Bytes b) (y : is_accepted (record_outcome b) �
 
   body_bytes : bytes_of (numbers_in b) ≡ lent_body b
   body_bytes =
-      ap bytes_of (sym (body_numbers b shown))
+      ap bytes_of (sym (lent_numbers b shown))
       ∙ bytes_back 197 (lent_body b) (body_length_lem b shown) (take_bytes 394 (drop (length b - 402) b) (drop_bytes (length b - 402) b bytes))
 
   numbers_here : numbers_of (read_call b).answer.state ≡ numbers_in b

@@ -1,32 +1,23 @@
 -- The last 8 bytes of a record. Assumes nothing.
-use mathlib.Core.Path.{◌≡◌, refl, ap, sym, ◌∙◌, subst}
+use mathlib.Core.Path.{◌≡◌, refl, ap, ◌∙◌}
 use mathlib.Core.Bool.{Bool, true, false, cond, ◌&&◌}
 use mathlib.Core.List.{List, [], ◌∷◌}
-use Prim.Native.Nat.{ℕ, ◌-◌}
+use Prim.Native.Nat.{ℕ}
 use native.Mathlib.Omega.{arith}
-use lib.Dec.{T, eqb}
-use lib.ListN.{length, take, drop, get_or, length-drop}
-use lib.Seq.{take_all}
+use lib.Dec.{eqb}
+use lib.ListN.{length, get_or}
 use borrow.Author.Tests.{eqb-true, not-false}
+use Rattle.std.proofs.lemmas.Bool.{and_parts}
 use Rattle.outcome.specs.Outcome.{is_accepted}
 use Rattle.outcome.specs.Checks.{first_met}
 use Rattle.outcome.proofs.Checks.{none_met}
 use Rattle.coding.specs.Bytes.{bytes_of, Bytes}
 use Rattle.record.specs.Record.{Trailer, current, versions, trailer_of, field_at, trailer_checks, trailer_bytes}
 
--- ---- of the 8 bytes that end a record
-pub tail : (b : List ℕ) (k : ℕ) → take (length b - k) (drop k b) ≡ drop k b
-tail b k = take_all (length b - k) (drop k b) (simp length-drop (omega arith))
-
 -- ---- what acceptance says, of the bytes too
 only_one : (s : Bool) → cond s true false ≡ true → s ≡ true
 only_one true h = refl
 only_one false h = h
-
-both : (s t : Bool) → s && t ≡ true → (s ≡ true) × (t ≡ true)
-both true true h = (refl, refl)
-both true false h = (refl, h)
-both false t h = (h, absurd (subst T (sym h) tt))
 
 listed : (t : List ℕ) → length t ≡ 8 → t ≡ get_or t 0 0 ∷ get_or t 1 0 ∷ get_or t 2 0 ∷ get_or t 3 0 ∷ get_or t 4 0 ∷ get_or t 5 0 ∷ get_or t 6 0 ∷ get_or t 7 0 ∷ []
 listed [] l = absurd (omega (arith, l))
@@ -54,13 +45,13 @@ module _ (t : List ℕ) (h : is_accepted (first_met (trailer_checks t)) ≡ true
   layout =
       let v = trailer_of (field_at t 2) versions in
       let right : eqb (field_at t 4) v.distance && eqb (field_at t 6) v.count ≡ true = not-false _ (none_met (trailer_checks t) h).1.1.0 in
-      let l = both (eqb (field_at t 4) current.distance) (eqb (field_at t 6) current.count) (rw trailer_one at right) in
+      let l = and_parts (eqb (field_at t 4) current.distance) (eqb (field_at t 6) current.count) (rw trailer_one at right) in
       (eqb-true (field_at t 4) 394 l.0, eqb-true (field_at t 6) 197 l.1)
 
   pub trailer_is : length t ≡ 8 → Bytes t → t ≡ trailer_bytes
   unfolding bytes_of
   trailer_is k bytes =
-      let m = both (eqb (get_or t 0 0) 0x4D) (eqb (get_or t 1 0) 0x37) (not-false _ (none_met (trailer_checks t) h).0) in
+      let m = and_parts (eqb (get_or t 0 0) 0x4D) (eqb (get_or t 1 0) 0x37) (not-false _ (none_met (trailer_checks t) h).0) in
       let v = eqb-true (field_at t 2) 1 version_one in
       let l = layout in
       let b₂ : get_or t 2 0 ≡ 1 = omega (arith, v, bytes 2) in

@@ -1,34 +1,20 @@
-// What turns a read or a write back: groups of checks, in the order 11 to 17 and 5, 16, 17.
-ghost use Rattle.std.specs.Prelude.{◌≡◌, length};
+// What turns a read back, of the bytes: groups of checks, in the order 11 to 15.
+ghost use Rattle.std.specs.Prelude.{◌≡◌, Ok, Err, MatchResult};
 ghost use Rattle.outcome.specs.Checks.{first_met};
-ghost use Rattle.record.specs.Record.{size_checks, trailer_checks, body_checks, byte_checks, room_checks, write_checks};
+ghost use Rattle.coding.specs.Bytes.{words};
+ghost use Rattle.record.specs.Record.{numbers_in, trailer_checks, byte_checks};
 
-use super::{COUNT, DISTANCE, RECORD_BYTES, TRAILER_BYTES, VERSION};
+use super::{COUNT, DISTANCE, TAG, TRAILER_BYTES, VERSION};
 use coding::BODY_BYTES;
 use outcome::{Outcome, Refusal};
-use state::State;
-
-// 11: under 8 bytes.
-#[tactic(auto, unfolding(outcome::specs::Checks::first_met))]
-fn check_size(size: usize) -> Outcome
-    ensures { result ≡ first_met (size_checks size) }
-{
-    let short = size < TRAILER_BYTES;
-    if short {
-        return Err(Refusal::RecordShort);
-    }
-    Ok(())
-}
 
 // 12 to 14: tag, version and layout, of the last 8 bytes.
 #[tactic(auto, unfolding(outcome::specs::Checks::first_met))]
-fn check_trailer(t: &[u8]) -> Outcome
-    requires { length t.now ≡ 8 }
+fn check_trailer(t: &[u8; TRAILER_BYTES]) -> Outcome
     ensures { result ≡ first_met (trailer_checks t.now) }
 {
-    let other_first = t[0] != 0x4D;
-    let other_second = t[1] != 0x37;
-    if other_first || other_second {
+    let other_tag = [t[0], t[1]] != TAG;
+    if other_tag {
         return Err(Refusal::Tag);
     }
     let other_version = coding::unsigned(t[2], t[3]) != VERSION;
@@ -43,42 +29,15 @@ fn check_trailer(t: &[u8]) -> Outcome
     Ok(())
 }
 
-// 15: fewer bytes before the trailer than the version's distance.
-#[tactic(auto, unfolding(outcome::specs::Checks::first_met))]
-fn check_body(before: usize, distance: usize) -> Outcome
-    ensures { result ≡ first_met (body_checks before distance) }
+// The body of a record, or 11 to 15: under 8 bytes, what the trailer shows, fewer bytes before it than a body has.
+pub fn body_of(bytes: &[u8]) -> Result<&[u8; BODY_BYTES], Refusal>
+    ensures { MatchResult result
+        (λ body. (first_met (byte_checks bytes.now) ≡ Ok tt) × (words body.now ≡ numbers_in bytes.now))
+        (λ refusal. first_met (byte_checks bytes.now) ≡ Err refusal) }
 {
-    if before < distance {
-        return Err(Refusal::BodyShort);
-    }
-    Ok(())
-}
-
-// 11 to 15.
-pub fn check_bytes(bytes: &[u8]) -> Outcome
-    ensures { result ≡ first_met (byte_checks bytes.now) }
-{
-    check_size(bytes.len())?;
-    let (before, trailer) = bytes.split_at(bytes.len() - TRAILER_BYTES);
+    let Some((before, trailer)) = bytes.split_last_chunk() else {
+        return Err(Refusal::RecordShort);
+    };
     check_trailer(trailer)?;
-    check_body(before.len(), BODY_BYTES)
-}
-
-// 5: the lent bytes are not as many as a record's.
-#[tactic(auto, unfolding(outcome::specs::Checks::first_met))]
-fn check_room(room: usize) -> Outcome
-    ensures { result ≡ first_met (room_checks room) }
-{
-    if room != RECORD_BYTES {
-        return Err(Refusal::OutputLength);
-    }
-    Ok(())
-}
-
-// In the order 5, 16, 17.
-pub fn check_write(state: State, room: usize) -> Outcome
-    ensures { result ≡ first_met (write_checks state room) }
-{
-    check_room(room)?;
-    state::check_state(state)
+    before.last_chunk().ok_or(Refusal::BodyShort)
 }

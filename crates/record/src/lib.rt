@@ -1,23 +1,21 @@
 // The handover record: its reader and its writer.
 #![tactic(auto)]
 
-ghost use Rattle.std.specs.Prelude.{◌≡◌, Ok, Err, MatchResult, length};
+ghost use Rattle.std.specs.Prelude.{◌≡◌, Ok, Err, MatchResult};
 ghost use Rattle.state.specs.Layout.{state_of};
-ghost use Rattle.record.specs.Record.{numbers_in, record_outcome, record_length, refused_answer, read_call, read_result, trailer_bytes, encoded, write_result, write_call};
+ghost use Rattle.record.specs.Record.{numbers_in, record_outcome, refused_answer, read_call, read_result, trailer_bytes, encoded, write_result, write_call};
 
 mod checks;
 
-use basicop::Q14;
-use checks::{check_bytes, check_write};
+use checks::body_of;
 use coding::BODY_BYTES;
-use decoder::Core;
-use energy::GainControl;
 use outcome::{Outcome, Refusal};
-use postfilter::Postfilter;
 use state::State;
 
 // What a record ends with: the tag, and, 16 bits each, version, distance back from trailer to body, count of the body's numbers.
 const TRAILER_BYTES: usize = 8;
+
+const TAG: [u8; 2] = *b"M7";
 
 const VERSION: u16 = 1;
 
@@ -48,22 +46,10 @@ pub struct Reading<'a> {
 fn refused(refusal: Refusal) -> Answer
     ensures { result ≡ refused_answer (Err refusal) }
 {
+    let state = State::default();
     Answer {
         outcome: Err(refusal),
-        state: State {
-            core: Core {
-                lsp: [0; state::LSP],
-                past: [0; state::PAST],
-                sharpening: Q14(0),
-                history: [0; state::HISTORY],
-            },
-            post: Postfilter {
-                input_history: [0; state::HISTORY],
-                synthesis_history: [0; state::HISTORY],
-                previous_residual: 0,
-                gain: GainControl { previous_gain: 0 },
-            },
-        },
+        state,
     }
 }
 
@@ -71,70 +57,71 @@ fn refused(refusal: Refusal) -> Answer
 fn read_state(bytes: &[u8]) -> Result<State, Refusal>
     ensures { MatchResult result (λ s. (record_outcome bytes.now ≡ Ok tt) × (s ≡ state_of (numbers_in bytes.now))) (λ refusal. record_outcome bytes.now ≡ Err refusal) }
 {
-    check_bytes(bytes)?;
-    let (_note, record) = bytes.split_at(bytes.len() - RECORD_BYTES);
-    let state = coding::state_in(&record[..BODY_BYTES]);
+    let state = coding::state_in(body_of(bytes)?);
     state::check_state(state)?;
     Ok(state)
+}
+
+// Reads a record. The note is what stands before the body: a part of the lent bytes, not a copy; none of them where the read is refused.
+pub fn read<'a>(bytes: &'a [u8]) -> Reading<'a>
+    ensures { (read_result result.answer result.note.now ≡ read_call bytes.now) × (result.note.ref_ptr ≡ bytes.entry.ref_ptr) }
+{
+    match read_state(bytes) {
+        Ok(state) => Reading {
+            answer: Answer {
+                outcome: Ok(()),
+                state,
+            },
+            note: &bytes[..bytes.len() - RECORD_BYTES],
+        },
+        Err(refusal) => Reading {
+            answer: refused(refusal),
+            note: &bytes[..0],
+        },
+    }
 }
 
 // What a read answers beside the note.
 pub fn answer_of(bytes: &[u8]) -> Answer
     ensures { result ≡ (read_call bytes.now).answer }
 {
-    match read_state(bytes) {
-        Ok(state) => Answer {
-            outcome: Ok(()),
-            state,
-        },
-        Err(refusal) => refused(refusal),
-    }
+    let Reading { answer, note: _ } = read(bytes);
+    answer
 }
 
-// What stands before the body: part of the lent bytes, none of them where the read is refused.
+// The note of a read.
 pub fn note(bytes: &[u8]) -> &[u8]
     ensures { (result.now ≡ (read_call bytes.now).note) × (result.ref_ptr ≡ bytes.entry.ref_ptr) }
 {
-    match read_state(bytes) {
-        Ok(_) => &bytes[..bytes.len() - RECORD_BYTES],
-        Err(_) => &bytes[..0],
-    }
-}
-
-// Reads a record. The note is the part of the lent bytes before the body, not a copy.
-pub fn read<'a>(bytes: &'a [u8]) -> Reading<'a>
-    ensures { (read_result result.answer result.note.now ≡ read_call bytes.now) × (result.note.ref_ptr ≡ bytes.entry.ref_ptr) }
-{
-    Reading {
-        answer: answer_of(bytes),
-        note: note(bytes),
-    }
+    read(bytes).note
 }
 
 // ---- the writer
-fn write_trailer(out: &mut [u8])
-    requires { length out.old ≡ 8 }
+fn write_trailer(out: &mut [u8; TRAILER_BYTES])
     ensures { out.new ≡ trailer_bytes }
 {
-    out[0] = 0x4D;
-    out[1] = 0x37;
-    let fields = FIELDS;
-    coding::put(&mut out[2..8], &fields);
+    let (tag, fields) = out.split_at_mut(TAG.len());
+    tag.copy_from_slice(&TAG);
+    coding::put(fields, &FIELDS);
 }
 
-fn write_record(state: State, out: &mut [u8])
-    requires { length out.old ≡ record_length }
+#[tactic(auto, unfolding(crate::specs::Record::encoded))]
+fn write_record(state: State, out: &mut [u8; RECORD_BYTES])
     ensures { out.new ≡ encoded state }
 {
-    coding::write_body(state, &mut out[0..BODY_BYTES]);
-    write_trailer(&mut out[BODY_BYTES..RECORD_BYTES]);
+    let (body, trailer) = out.split_at_mut(BODY_BYTES);
+    coding::write_body(state, body.as_mut_array().unwrap());
+    write_trailer(trailer.as_mut_array().unwrap());
 }
 
-// Writes the record of a state, without a note.
+// Writes the record of a state, without a note. Turned back, in this order: 5, the lent bytes are not as many as a record's; 16, 17.
 pub fn write(state: State, out: &mut [u8]) -> Outcome
     ensures { write_result result out.new ≡ write_call state out.old }
 {
-    check_write(state, out.len())?;
-    write_record(state, out);
+    let Some(record) = out.as_mut_array() else {
+        return Err(Refusal::OutputLength);
+    };
+    state::check_state(state)?;
+    write_record(state, record);
     Ok(())
 }

@@ -8,17 +8,10 @@ use coding::BODY_BYTES;
 use lpc::Rows;
 use state::State;
 
-fn listed(rows: Rows) -> [[i16; 11]; 4]
-    ensures { result ≡ row_list rows }
-{
-    let Rows { a, b, c, d } = rows;
-    [a, b, c, d]
-}
-
 pub fn rows_same(recorded: Rows, rows: Rows) -> bool
     ensures { IsTrue result ↔ row_list recorded ≡ row_list rows }
 {
-    listed(recorded) == listed(rows)
+    recorded == rows
 }
 
 // The bytes of a state are these.

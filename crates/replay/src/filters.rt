@@ -47,9 +47,9 @@ pub fn synthesis(record: &mut Reader) -> Option<bool> {
 }
 
 pub fn postfilter(record: &mut Reader) -> Option<bool> {
-    let memory = coding::post_in(record.bytes(POST_BYTES)?);
+    let memory = coding::post_in(record.array::<POST_BYTES>()?);
     let filtered = postfilter::process(memory, record.numbers()?, record.rows()?);
     let mut left = [0; POST_BYTES];
     coding::write_post(filtered.memory, &mut left);
-    Some(record.numbers()? == filtered.samples && record.bytes(POST_BYTES)? == left.as_slice())
+    Some(record.numbers()? == filtered.samples && *record.array()? == left)
 }

@@ -7,7 +7,7 @@ use lpc::Rows;
 // A whole frame: samples, places, rows and next state of an accepted call.
 pub fn frame(record: &mut Reader) -> Option<bool> {
     let sheet: [i16; 182] = record.numbers()?;
-    let state = coding::state_in(record.bytes(BODY_BYTES)?);
+    let state = coding::state_in(record.array::<BODY_BYTES>()?);
     let mut samples = [0; 160];
     let answer = mr74::frame(&sheet, state, &mut samples);
     Some(
@@ -15,7 +15,7 @@ pub fn frame(record: &mut Reader) -> Option<bool> {
             && record.numbers()? == samples
             && record.places()? == answer.places
             && rows_same(record.rows()?, answer.rows)
-            && state_same(record.bytes(BODY_BYTES)?, answer.next),
+            && state_same(record.array::<BODY_BYTES>()?, answer.next),
     )
 }
 
@@ -24,24 +24,18 @@ pub fn refused(record: &mut Reader) -> Option<bool> {
     let n = usize::from(record.bits()?);
     let room = usize::from(record.bits()?);
     let sheet: [i16; 184] = record.numbers()?;
-    let before = record.bytes(BODY_BYTES)?;
+    let before = record.array::<BODY_BYTES>()?;
     let mut lent = [0x5555; 200];
     let answer = mr74::frame(
         sheet.get(..n)?,
-        coding::state_in(before),
+        coding::state_in(before.as_array()?),
         lent.get_mut(..room)?,
     );
-    let zeros = Rows {
-        a: [0; 11],
-        b: [0; 11],
-        c: [0; 11],
-        d: [0; 11],
-    };
     Some(
         u64::from(record.bits()?) == outcome::number(answer.outcome)
             && usize::from(record.bits()?) == outcome::place(answer.outcome)
             && answer.places == [40; 4]
-            && rows_same(zeros, answer.rows)
+            && rows_same(Rows::default(), answer.rows)
             && state_same(before, answer.next)
             && lent == [0x5555; 200],
     )

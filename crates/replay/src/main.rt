@@ -56,7 +56,7 @@ fn run<R: Read, F: Fn(&mut Reader) -> Option<bool>>(
         different: 0,
     };
     for _ in 0..1_000_000 {
-        let Some(agrees) = record_agrees(input, &mut buffer[0..size], agrees)? else {
+        let Some(agrees) = record_agrees(input, &mut buffer[..size], agrees)? else {
             break;
         };
         counts.records += 1;
@@ -89,8 +89,8 @@ fn file<F: Fn(&mut Reader) -> Option<bool>>(
 
 fn cut_records(rt: &impl Print) -> io::Result<()> {
     let mut r = [0; record::RECORD_BYTES];
-    let written = records::write_zeros(&mut r);
-    let read = records::refusal_of(&r);
+    let written = outcome::number(records::write_zeros(&mut r));
+    let read = outcome::number(record::answer_of(&r).outcome);
     let different = records::cuts(&r);
     println!(rt; "record of zeros: {written} written, {read} read, 402 cuts, {different} different")
 }

@@ -4,29 +4,30 @@ ghost use Rattle.std.specs.Prelude.{◌<◌};
 use super::compare::state_same;
 use super::words::Reader;
 use coding::BODY_BYTES;
+use outcome::{Outcome, Refusal};
 use record::RECORD_BYTES;
 
 // Refusal, note's length and state that the reader gives.
 pub fn record_read(record: &mut Reader) -> Option<bool> {
     let n = usize::from(record.bits()?);
-    let bytes = record.bytes(420)?.get(..n)?;
+    let bytes = record.array::<420>()?.get(..n)?;
     let answer = record::answer_of(bytes);
     let note = record::note(bytes);
     Some(
         u64::from(record.bits()?) == outcome::number(answer.outcome)
             && usize::from(record.bits()?) == note.len()
-            && state_same(record.bytes(BODY_BYTES)?, answer.state),
+            && state_same(record.array::<BODY_BYTES>()?, answer.state),
     )
 }
 
 // What was lent, 0x55 in each byte before the write, begins with the recorded record, or is as it was where the write was refused.
 pub fn record_write(record: &mut Reader) -> Option<bool> {
     let n = usize::from(record.bits()?);
-    let state = coding::state_in(record.bytes(BODY_BYTES)?);
+    let state = coding::state_in(record.array::<BODY_BYTES>()?);
     let mut lent = [0x55; 420];
     let outcome = record::write(state, lent.get_mut(..n)?);
     let refusal = u64::from(record.bits()?);
-    let written = record.bytes(RECORD_BYTES)?;
+    let written = record.array::<RECORD_BYTES>()?;
     let mut expected = [0x55; 420];
     if refusal == 0 {
         expected[..RECORD_BYTES].copy_from_slice(written);
@@ -34,20 +35,16 @@ pub fn record_write(record: &mut Reader) -> Option<bool> {
     Some(outcome::number(outcome) == refusal && lent == expected)
 }
 
-pub fn refusal_of(bytes: &[u8]) -> u64 {
-    outcome::number(record::answer_of(bytes).outcome)
-}
-
 // The first n and the last n bytes of a record of zeros: both are under 8 bytes, or the first lack the tag and the last the body.
 fn cut_refused(zeros: &[u8; RECORD_BYTES], n: usize) -> bool
     requires { n < RECORD_BYTES }
 {
-    let first = refusal_of(&zeros[..n]);
-    let last = refusal_of(&zeros[RECORD_BYTES - n..]);
+    let first = record::answer_of(&zeros[..n]).outcome;
+    let last = record::answer_of(&zeros[RECORD_BYTES - n..]).outcome;
     if n < 8 {
-        first == 11 && last == 11
+        first == Err(Refusal::RecordShort) && last == Err(Refusal::RecordShort)
     } else {
-        first == 12 && last == 15
+        first == Err(Refusal::Tag) && last == Err(Refusal::BodyShort)
     }
 }
 
@@ -58,7 +55,7 @@ pub fn cuts(zeros: &[u8; RECORD_BYTES]) -> usize {
         .count()
 }
 
-// The record of the state of zeros, put into the lent bytes: the writer's refusal.
-pub fn write_zeros(lent: &mut [u8]) -> u64 {
-    outcome::number(record::write(coding::state_in(&[0; BODY_BYTES]), lent))
+// The record of the state of zeros, put into the lent bytes.
+pub fn write_zeros(lent: &mut [u8]) -> Outcome {
+    record::write(coding::state_in(&[0; BODY_BYTES]), lent)
 }

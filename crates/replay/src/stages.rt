@@ -3,32 +3,27 @@ use super::compare::rows_same;
 use super::words::Reader;
 use pitch::{Fraction, PitchLag};
 
+#[tactic(auto, using(outcome::proofs::Ranges::none_found, outcome::proofs::Ranges::in_range_all))]
 pub fn lsp(record: &mut Reader) -> Option<bool> {
     let lsf = record.numbers()?;
-    let limits = [16384i16; 10];
-    if outcome::first_outside(&lsf, &limits).is_some() {
+    if outcome::first_outside(&lsf, &[16384; 10]).is_some() {
         return Some(false);
     }
     Some(record.numbers()? == spectral::lsf_to_lsp(lsf))
 }
 
-// The lag of an index, after a previous lag where it is relative.
-fn lag_of(relative: bool, index: u8, previous: u16) -> PitchLag {
-    if relative {
-        let before = PitchLag {
-            samples: previous,
-            fraction: Fraction::Zero,
-        };
+pub fn lag(record: &mut Reader) -> Option<bool> {
+    let relative = record.bits()? == 1;
+    let index = u8::try_from(record.bits()?).ok()?;
+    let before = PitchLag {
+        samples: record.bits()?,
+        fraction: Fraction::Zero,
+    };
+    let lag = if relative {
         PitchLag::from_relative(index, before)
     } else {
         PitchLag::from_absolute(index)
-    }
-}
-
-pub fn lag(record: &mut Reader) -> Option<bool> {
-    let relative = record.bits()? == 1;
-    let [index, _] = record.bits()?.to_le_bytes();
-    let lag = lag_of(relative, index, record.bits()?);
+    };
     Some(record.bits()? == lag.samples && record.number()? == lag.fraction.thirds())
 }
 
@@ -47,13 +42,11 @@ pub fn interpolate(record: &mut Reader) -> Option<bool> {
     Some(rows_same(record.rows()?, rows))
 }
 
+// The fraction of so many thirds.
 fn fraction_of(thirds: i16) -> Option<Fraction> {
-    match thirds {
-        -1 => Some(Fraction::MinusThird),
-        0 => Some(Fraction::Zero),
-        1 => Some(Fraction::PlusThird),
-        _ => None,
-    }
+    [Fraction::MinusThird, Fraction::Zero, Fraction::PlusThird]
+        .into_iter()
+        .find(|fraction| fraction.thirds() == thirds)
 }
 
 pub fn predict(record: &mut Reader) -> Option<bool> {

@@ -35,10 +35,19 @@ impl<'a> Reader<'a> {
     }
 
     // The next n bytes.
-    pub fn bytes(&mut self, n: usize) -> Option<&'a [u8]>
+    fn bytes(&mut self, n: usize) -> Option<&'a [u8]>
         ensures { Reads n (λ b. (b.now ≡ take n self.old) × (length b.now ≡ n)) self.old self.new result }
     {
         let (front, rest) = self.rest.split_at_checked(n)?;
+        self.rest = rest;
+        Some(front)
+    }
+
+    // The next N bytes.
+    pub fn array<const N: usize>(&mut self) -> Option<&'a [u8; N]>
+        ensures { Reads N (λ b. b.now ≡ take N self.old) self.old self.new result }
+    {
+        let (front, rest) = self.rest.split_first_chunk()?;
         self.rest = rest;
         Some(front)
     }
@@ -53,24 +62,22 @@ impl<'a> Reader<'a> {
     pub fn number(&mut self) -> Option<i16>
         ensures { Reads 2 (λ x. x ≡ signed16 (unsigned (get_or self.old 0 0) (get_or self.old 1 0))) self.old self.new result }
     {
-        let b = self.bytes(2)?;
-        Some(coding::word(b[0], b[1]))
+        Some(self.bits()?.cast_signed())
     }
 
     // 16 bits, as they stand.
     pub fn bits(&mut self) -> Option<u16>
         ensures { Reads 2 (λ x. x ≡ unsigned (get_or self.old 0 0) (get_or self.old 1 0)) self.old self.new result }
     {
-        let b = self.bytes(2)?;
-        Some(coding::unsigned(b[0], b[1]))
+        Some(u16::from_le_bytes(*self.array()?))
     }
 
     // 32 bits, the low 16 first.
     pub fn long(&mut self) -> Option<i32>
         ensures { Reads 4 (λ x. x ≡ long_of self.old) self.old self.new result }
     {
-        let b = self.bytes(4)?;
-        Some(i32::from_le_bytes([b[0], b[1], b[2], b[3]]))
+        let &[a, b, c, d] = self.array::<4>()?;
+        Some(i32::from_le_bytes([a, b, c, d]))
     }
 
     // The four rows of a frame.

@@ -1,3 +1,3 @@
--- Rounds: what the rounds of the loop come to. Whole: the first step, and the rounds after it.
-pub mod Rounds
+-- Taken: how much of the input was read. Whole: the first step, and the rounds after it.
+pub mod Taken
 pub mod Whole

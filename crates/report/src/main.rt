@@ -10,6 +10,7 @@ ghost use Rattle.totals.specs.Inner.{OneMore};
 ghost use Rattle.report.specs.Serving.{ServesSheet, TakesAtMost};
 
 use lines::Line;
+use mr74::SHEET_BYTES;
 use sheets::Step;
 use shift_report::Totals;
 use state::State;
@@ -25,7 +26,7 @@ fn serve_sheet<R: Read>(input: &mut R, totals: Totals, state: State) -> io::Resu
     ensures bounded { IfOk result (λ s. Bounded s.made) }
     ensures counted { IfOk result (λ s. sheets_counted s.made ≤ sheets_counted totals + 1) }
 {
-    sheets::on_sheet(input, |bytes| totals::step(totals, bytes, state))
+    sheets::on_bytes::<SHEET_BYTES, _, _, _>(input, |bytes| totals::step(totals, bytes, state))
 }
 
 // What comes after so many sheets is not read.

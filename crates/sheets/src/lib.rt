@@ -1,25 +1,20 @@
 // What a program of the bench reads: a record, then sheets one by one.
 #![tactic(auto)]
 
-ghost use Rattle.std.specs.Prelude.{◌≡◌, ℕ, List, length, take, IfOk};
+ghost use Rattle.std.specs.Prelude.{◌≡◌, ◌<◌, ◌^◌, ℕ, List, length, take, IfOk};
 ghost use Rattle.std.specs.Fn.{FnOnceReturnsAt};
 ghost use Rattle.std.specs.Io.{ReadsAtMost};
 ghost use Rattle.mr74.specs.Frame.{call_result};
-ghost use Rattle.sheets.specs.Sheets.{record_bytes, sheet_bytes, sheet_call, step_result, told, opening_step};
+ghost use Rattle.sheets.specs.Sheets.{record_bytes, sheet_call, step_result, told, opening_step};
 ghost use Rattle.sheets.specs.Reading.{TakesFirst};
 
 use lines::Line;
-use mr74::{FrameAnswer, SAMPLES, SHEET};
-use record::Answer;
+use mr74::{FrameAnswer, SAMPLES, SHEET, SHEET_BYTES};
+use record::{Answer, RECORD_BYTES};
 use state::State;
 use std::io;
 use std::io::Read;
 use std::ops::ControlFlow;
-
-// The bytes of the record that the input begins with, and of each sheet.
-pub const RECORD_BYTES: usize = 402;
-
-pub const SHEET_BYTES: usize = 2 * SHEET;
 
 // What a step of a program makes, and whether there is a next one: it goes on with a state, or breaks off with the last.
 #[derive(Drop)]
@@ -45,6 +40,20 @@ pub fn read_full<R: Read>(input: &mut R, bytes: &mut [u8]) -> io::Result<usize>
     Ok(done)
 }
 
+// Reads at most N bytes from the input, and takes a step on what came.
+pub fn on_bytes<const N: usize, R: Read, T, F: FnOnce(&[u8]) -> T>(
+    input: &mut R,
+    step: F,
+) -> io::Result<T>
+    requires room { N < 2 ^ 63 }
+    requires step { F.IsAlwaysCallable step }
+    ensures { IfOk result (λ made. (came : List ℕ) × TakesFirst (R.remaining input.old) (R.remaining input.new) N came × FnOnceReturnsAt F.FnOnce step came made) }
+{
+    let mut bytes = [0u8; N];
+    let n = read_full(input, &mut bytes)?;
+    Ok(step(&bytes[..n]))
+}
+
 // ---- the record
 // The first step, on the record as far as it came: a refused one is told, and nothing more.
 pub fn open_call(bytes: &[u8]) -> Step<Line>
@@ -67,22 +76,10 @@ pub fn open_call(bytes: &[u8]) -> Step<Line>
 pub fn read_record<R: Read>(input: &mut R) -> io::Result<Step<Line>>
     ensures { IfOk result (λ s. (came : List ℕ) × TakesFirst (R.remaining input.old) (R.remaining input.new) record_bytes came × (told step_result s ≡ opening_step came)) }
 {
-    let mut bytes = [0u8; RECORD_BYTES];
-    let n = read_full(input, &mut bytes)?;
-    Ok(open_call(&bytes[..n]))
+    on_bytes::<RECORD_BYTES, _, _, _>(input, |bytes| open_call(bytes))
 }
 
 // ---- a sheet
-// Reads a sheet from the input, as far as it comes, and takes a step on what came.
-pub fn on_sheet<R: Read, T, F: FnOnce(&[u8]) -> T>(input: &mut R, step: F) -> io::Result<T>
-    requires { F.IsAlwaysCallable step }
-    ensures { IfOk result (λ made. (came : List ℕ) × TakesFirst (R.remaining input.old) (R.remaining input.new) sheet_bytes came × FnOnceReturnsAt F.FnOnce step came made) }
-{
-    let mut bytes = [0u8; SHEET_BYTES];
-    let n = read_full(input, &mut bytes)?;
-    Ok(step(&bytes[..n]))
-}
-
 // What a sheet's frame call gives.
 #[derive(Drop)]
 pub struct Decoded {
@@ -92,12 +89,10 @@ pub struct Decoded {
 
 // The frame call of a sheet's bytes.
 #[tactic(auto, using(crate::proofs::Opening::sheet_called))]
-pub fn decode_bytes(bytes: &[u8], state: State) -> Decoded
-    requires { length bytes.now ≡ sheet_bytes }
+pub fn decode_bytes(bytes: &[u8; SHEET_BYTES], state: State) -> Decoded
     ensures { call_result result.answer result.samples ≡ sheet_call bytes.now state }
 {
-    let mut sheet = [0i16; SHEET];
-    coding::fill(&mut sheet, bytes);
+    let sheet: [i16; SHEET] = coding::numbers_in(bytes);
     let mut samples = [0i16; SAMPLES];
     let answer = mr74::frame(&sheet, state, &mut samples);
     Decoded { answer, samples }

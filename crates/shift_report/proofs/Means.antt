@@ -3,7 +3,8 @@ use mathlib.Core.Path.{◌≡◌, ap, ◌∙◌}
 use Prim.Native.Nat.{ℕ, ◌/◌}
 use native.Mathlib.Nat.{div-mul-le_self, lt-div-mul-add}
 use lib.IntN.{ℤ, pos, negsuc, ◌+ℤ◌, ◌*ℤ◌, +ℤ_one, suc_ℤ-*ℤ}
-use Rattle.basicop.proofs.Ints.{arith_ℤ, add_is, mul_is}
+use borrow.Author.Differences.{sum_is_lem, product_is}
+use Rattle.basicop.proofs.Ints.{arith_ℤ}
 use Rattle.shift_report.specs.Report.{mean_of, MeanFloor}
 
 -- ---- n times the mean is at most the sum, and n times one more is above it
@@ -14,11 +15,11 @@ pub mean_floor : MeanFloor
 unfolding mean_of
 mean_floor (pos a) n h =
     let m = pos (a / n) in (
-      omega (arith_ℤ, mul_is m (pos n), div-mul-le_self a n),
-      rw (one_more m n) (omega (arith_ℤ, add_is (m *ℤ pos n) (pos n), mul_is m (pos n), lt-div-mul-add {a = a} h)),
+      omega (arith_ℤ, product_is m (pos n), div-mul-le_self a n),
+      rw (one_more m n) (omega (arith_ℤ, sum_is_lem (m *ℤ pos n) (pos n), product_is m (pos n), lt-div-mul-add {a = a} h)),
     )
 mean_floor (negsuc a) n h =
     let m = negsuc (a / n) in (
-      omega (arith_ℤ, mul_is m (pos n), lt-div-mul-add {a = a} h),
-      rw (one_more m n) (omega (arith_ℤ, add_is (m *ℤ pos n) (pos n), mul_is m (pos n), div-mul-le_self a n)),
+      omega (arith_ℤ, product_is m (pos n), lt-div-mul-add {a = a} h),
+      rw (one_more m n) (omega (arith_ℤ, sum_is_lem (m *ℤ pos n) (pos n), product_is m (pos n), div-mul-le_self a n)),
     )

@@ -21,12 +21,7 @@ abbrev pub made : ℕ → ℕ → ℕ → ℕ → ℤ → Totals
 made accepted refused retried squares peaks = record { accepted = accepted; refused = refused; retried = retried; squares = squares; peaks = peaks }
 
 pub totals_same : (a b : Totals) → a.accepted ≡ b.accepted → a.refused ≡ b.refused → a.retried ≡ b.retried → a.squares ≡ b.squares → a.peaks ≡ b.peaks → a ≡ b
-totals_same a b e f g h k =
-    ap (λ (x : ℕ). made x a.refused a.retried a.squares a.peaks) e
-    ∙ ap (λ (x : ℕ). made b.accepted x a.retried a.squares a.peaks) f
-    ∙ ap (λ (x : ℕ). made b.accepted b.refused x a.squares a.peaks) g
-    ∙ ap (λ (x : ℕ). made b.accepted b.refused b.retried x a.peaks) h
-    ∙ ap (λ (x : ℤ). made b.accepted b.refused b.retried b.squares x) k
+totals_same a b e f g h k = λ i. record { accepted = e i; refused = f i; retried = g i; squares = h i; peaks = k i }
 
 -- ---- one list after another: how many calls a test is true of, and the numbers of those, whatever test and numbers
 module _ (ts us : List Trace) where

@@ -7,12 +7,12 @@ use lib.IntN.{ℤ}
 use lib.ListN.{length}
 use mir.Syntax.{w16}
 use mir.Val.{SFits}
+use lib.Signed.{nat_abs-le}
 use Rattle.lists.specs.Lists.{at}
-use Rattle.basicop.proofs.Range.{nat_abs_in}
 use Rattle.shift_report.specs.Totals.{square, square_sum}
 
 pub square_most : (x : ℤ) → SFits w16 x → square x ≤ 2 ^ 30
-square_most x h = mul-le-mul (nat_abs_in x h.sfits) (nat_abs_in x h.sfits)
+square_most x h = mul-le-mul (nat_abs-le x h.sfits) (nat_abs-le x h.sfits)
 
 pub squares_most : (xs : List ℤ) → ((i : ℕ) → SFits w16 (at xs i)) → square_sum xs ≤ 2 ^ 30 * length xs
 unfolding square_sum

@@ -8,7 +8,7 @@ use borrow.Author.Tests.{ltb-true, ltb-false}
 use lib.Dec.{ltb, lit≤}
 use lib.ListN.{length, take, drop, length-take}
 use lib.Seq.{take_all, take-take}
-use Rattle.lists.proofs.Entries.{stretch_taken}
+use Rattle.std.proofs.lemmas.List.{drop-take}
 use Rattle.state.specs.declared.State.{State}
 use Rattle.outcome.specs.Outcome.{number_of, is_accepted}
 use Rattle.record.specs.declared.Answer.{Answer}
@@ -34,7 +34,7 @@ traces_unread (suc k) s bytes =
     more l e =
         let n : 364 * suc k ≡ 364 + 364 * k = omega arith in
         let front : take 364 (take (364 * suc k) bytes) ≡ take 364 bytes = take-take 364 (364 * suc k) bytes (omega arith) in
-        let behind : drop 364 (take (364 * suc k) bytes) ≡ take (364 * k) (drop 364 bytes) = ap (λ (j : ℕ). drop 364 (take j bytes)) n ∙ stretch_taken 364 (364 * k) bytes in
+        let behind : drop 364 (take (364 * suc k) bytes) ≡ take (364 * k) (drop 364 bytes) = ap (λ (j : ℕ). drop 364 (take j bytes)) n ∙ drop-take 364 (364 * k) bytes in
         traces_more k s (take (364 * suc k) bytes) (omega (arith, length-take (364 * suc k) bytes, l))
         ∙ ap (λ (b : List ℕ). trace_of s (call_of b) ∷ sheet_traces k (next_state s (call_of b)) (drop 364 (take (364 * suc k) bytes))) front
         ∙ ap (λ (b : List ℕ). trace_of s (call_of (take 364 bytes)) ∷ sheet_traces k (next_state s (call_of (take 364 bytes))) b) behind
@@ -48,5 +48,5 @@ pub unread : Unread
 unfolding report_output output_by
 unread input =
     ap (λ (bytes : List ℕ). output_by (read_call bytes).answer (drop 402 (take 23855142 input))) (take-take 402 23855142 input (lit≤ tt))
-    ∙ ap (output_by (read_call (take 402 input)).answer) (stretch_taken 402 23854740 input)
+    ∙ ap (output_by (read_call (take 402 input)).answer) (drop-take 402 23854740 input)
     ∙ ap (λ (ts : List Trace). cond (is_accepted (read_call (take 402 input)).answer.outcome) (report_line (totals_of ts)) (state_line (number_of (read_call (take 402 input)).answer.outcome))) (traces_unread 65535 (read_call (take 402 input)).answer.state (drop 402 input))

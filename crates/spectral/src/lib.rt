@@ -17,6 +17,7 @@ const COSINE: [i16; 65] = [
 ];
 
 // offset / 256 of the way from an entry to the next
+#[tactic(auto, using(basicop::proofs::Calls::read_back), unfolding(crate::specs::Lsp::between))]
 fn between(low: i16, next: i16, offset: i16) -> i16
     ensures { result ≡ between low next offset }
 {

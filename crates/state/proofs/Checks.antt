@@ -3,7 +3,8 @@ use mathlib.Core.Path.{◌≡◌}
 use mathlib.Core.Bool.{true}
 use lib.IntN.{pos}
 use lib.Signed.{◌≤ℤ◌, lt_z}
-use Rattle.basicop.proofs.Tests.{less_no, no_less, or_left, or_right}
+use Rattle.std.proofs.lemmas.Bool.{or_parts}
+use Rattle.basicop.proofs.Tests.{less_no, no_less}
 use Rattle.std.specs.Prelude.{Ok}
 use Rattle.outcome.specs.Outcome.{is_accepted}
 use Rattle.outcome.specs.Checks.{first_met}
@@ -20,9 +21,10 @@ pub in_range : (s : State) → is_accepted (first_met (state_checks s)) ≡ true
 in_range s h =
     let u = none_met (state_checks s) h in
     let sharpening = s.core.sharpening.0 in
+    let n = or_parts (lt_z sharpening (pos 0)) (lt_z (pos 13017) sharpening) u.0 in
     record {
-      from = less_no (or_left (lt_z sharpening (pos 0)) (lt_z (pos 13017) sharpening) u.0);
-      to = less_no (or_right (lt_z sharpening (pos 0)) (lt_z (pos 13017) sharpening) u.0);
+      from = less_no n.0;
+      to = less_no n.1;
       gain = less_no u.1.0;
     }
 

@@ -3,12 +3,9 @@ use mathlib.Core.Path.{◌≡◌, refl, ap, ◌∙◌}
 use mathlib.Core.List.{List, [], ◌∷◌, ◌++◌}
 use Prim.Native.Nat.{ℕ}
 use lib.IntN.{ℤ, pos}
-use native.Mathlib.Omega.{arith}
-use lib.ListN.{length, take, drop}
-use lib.Seq.{get_or-take, get_or-drop}
-use Rattle.lists.specs.Lists.{at}
+use lib.ListN.{length}
 use Rattle.lists.specs.Parts.{joined, total, starts, cut, part_at}
-use Rattle.lists.proofs.Parts.{Each, each_so, cut_joined, counted_cut, joined_cut, at_cut, one_entry}
+use Rattle.lists.proofs.Parts.{Each, each_so, cut_joined, counted_cut, joined_cut, one_entry}
 use Rattle.basicop.specs.Words.{Words}
 use Rattle.basicop.proofs.Words.{zero_fits, words_one, words_append}
 use Rattle.state.specs.declared.State.{State}
@@ -86,12 +83,3 @@ numbers_of_state xs l =
     let ps = cut (counts state_parts) xs in
     let c = counted_cut (counts state_parts) xs l in
     ap joined (λ i. core_numbers_lem (part_at ps 0) c.0 i ∷ post_numbers_lem (part_at ps 1) c.1.0 i ∷ []) ∙ joined_cut (counts state_parts) xs l
-
--- ---- the two numbers that rows 16 and 17 test
-pub sharpening_at : (xs : List ℤ) → (state_of xs).core.sharpening.0 ≡ at xs 164
-unfolding state_of core_of
-sharpening_at xs = at_cut (counts core_parts) (take core_count xs) 2 0 (pos 0) (omega arith) ∙ get_or-take core_count xs 164 (pos 0) (omega arith)
-
-pub gain_at : (xs : List ℤ) → (state_of xs).post.gain.previous_gain ≡ at xs 196
-unfolding state_of post_of
-gain_at xs = at_cut (counts post_parts) (take post_count (drop core_count xs)) 3 0 (pos 0) (omega arith) ∙ get_or-take post_count (drop core_count xs) 21 (pos 0) (omega arith) ∙ get_or-drop core_count xs 21 (pos 0)

@@ -10,7 +10,7 @@ use outcome::{Outcome, Refusal};
 use postfilter::Postfilter;
 
 // In the record's order: the core's numbers (fields 0 to 174) and the postfilter's (175 to 196).
-#[derive(Clone, Copy)]
+#[derive(Clone, Copy, Default)]
 pub struct State {
     pub core: Core,
     pub post: Postfilter,

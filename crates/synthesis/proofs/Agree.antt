@@ -7,6 +7,7 @@ use mathlib.Core.List.{List, [], ◌∷◌, ◌++◌}
 use lib.IntN.{ℤ, pos, ◌+ℤ◌, ◌-ℤ◌, ◌*ℤ◌, *ℤ_comm}
 use lib.ListN.{length, take, drop}
 use mir.Syntax.{w32}
+use Rattle.std.proofs.lemmas.List.{drop-take}
 use Rattle.lists.specs.Lists.{at}
 use Rattle.basicop.specs.Ops.{asr, clamp, l_mult, l_sub, l_shl, l_add}
 use Rattle.synthesis.specs.Recursion.{outside, recursion, some_outside}
@@ -14,7 +15,7 @@ use Rattle.synthesis.specs.Synthesis.{acc, accs, shifted, unheld, sample, sample
 use Rattle.synthesis.specs.Whole.{product, sum, sums, wholes, whole, last, whole_samples, retried_at}
 use Rattle.synthesis.specs.Agree.{Agree}
 use Rattle.synthesis.proofs.Flags.{or_same, inside_clamp, leaves_one, leaves_two, two_none}
-use Rattle.synthesis.proofs.Fed.{fed_starts, cut, at_same, any_same, fed_same, until_same}
+use Rattle.synthesis.proofs.Fed.{at_same, any_same, fed_same, until_same}
 
 -- two numbers more after numbers that agree: v only where u lies inside
 steps_same : (us us' : List ℤ) (u v u' v' : ℤ) → some_outside us' ≡ some_outside us → (some_outside us ≡ false → u' ≡ u) → (some_outside us ≡ false → outside u ≡ false → v' ≡ v) → some_outside (us' ++ (u' ∷ v' ∷ [])) ≡ some_outside (us ++ (u ∷ v ∷ []))
@@ -63,7 +64,7 @@ module _ (m : ℕ) (a xs h : List ℤ) where
       let s = recursion (sample m a) xs h in
       let w = recursion (whole m a) xs h in
       let e = until_same (whole m a) (sample m a) (wholes m a) (unheld m a) (λ x y. unheld_same a x y m) (λ x y. sample_same a x y m) xs h in
-      sym (cut m n s h (rw l at (fed_starts (sample m a) xs h)) l) ∙ ap (drop m) (rw l at e) ∙ cut m n w h (rw l at (fed_starts (whole m a) xs h)) l
+      sym (drop-take m n s) ∙ ap (drop m) (rw l at e) ∙ drop-take m n w
 
   pub agree : length h ≡ m → Agree m a xs h
   agree l =

@@ -7,11 +7,11 @@ use native.Mathlib.Nat.{add-zero}
 use native.Mathlib.Omega.{arith}
 use lib.IntN.{ℤ, pos}
 use lib.ListN.{length, take, drop, length-append}
-use lib.Seq.{take-length, take-take, take-append_seam, take-add, take-suc, drop_at, drop-append-le}
+use lib.Seq.{take-length, take-take, take-append_seam, take-suc, drop-append-le}
 use Rattle.lists.specs.Lists.{at}
 use Rattle.lists.proofs.Entries.{each_append}
 use Rattle.synthesis.specs.Recursion.{recursion, step_numbers, some_outside, some_list_outside, first_list_outside}
-use Rattle.basicop.proofs.Tests.{or_left, or_right}
+use Rattle.std.proofs.lemmas.Bool.{or_parts}
 use Rattle.synthesis.proofs.Flags.{or_same}
 
 module _ (make : ℤ → List ℤ → ℤ) where
@@ -63,10 +63,6 @@ module _ (make : ℤ → List ℤ → ℤ) where
     numbers_append [] vs y = refl
     numbers_append (u ∷ us) vs y = ap (λ (r : List (List ℤ)). nums u y ∷ r) (numbers_append us vs (y ++ (make u y ∷ [])))
 
--- the first m + n of a list that starts with m, without those
-pub cut : (m n : ℕ) (z h : List ℤ) → take m z ≡ h → length h ≡ m → drop m (take (m + n) z) ≡ take n (drop m z)
-cut m n z h e l = rw (take-add m n z, e) (drop_at h (take n (drop m z)) m l)
-
 -- ---- two recursions whose flags agree as long as none is up, and whose samples agree where the flag is down
 at_case : (b b' : Bool) (i i' : ℕ) → b' ≡ b → (b ≡ false → i' ≡ i) → cond b' 0 (suc i') ≡ cond b 0 (suc i)
 at_case true b' i i' e f = rw e
@@ -93,7 +89,7 @@ module _ (make make' : ℤ → List ℤ → ℤ) (nums nums' : ℤ → List ℤ 
   unfolding step_numbers some_list_outside recursion
   fed_same [] y e = refl
   fed_same (x ∷ xs) y e =
-      rw (value x y (or_left (some_outside (nums x y)) _ e)) (fed_same xs (y ++ (make x y ∷ [])) (or_right (some_outside (nums x y)) _ e))
+      rw (value x y (or_parts (some_outside (nums x y)) _ e).0) (fed_same xs (y ++ (make x y ∷ [])) (or_parts (some_outside (nums x y)) _ e).1)
 
   -- up to the first flag
   pub until_same : (xs y : List ℤ) → take (length y + first_list_outside (step_numbers make nums xs y)) (recursion make' xs y) ≡ take (length y + first_list_outside (step_numbers make nums xs y)) (recursion make xs y)

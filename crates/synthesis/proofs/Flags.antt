@@ -15,7 +15,7 @@ use mir.Syntax.{w32}
 use mir.Val.{SFits}
 use Rattle.basicop.specs.Ops.{clamp, least, most}
 use Rattle.basicop.proofs.Clamp.{clamp_mid, clamp_fits}
-use Rattle.basicop.proofs.Tests.{or_left, or_right}
+use Rattle.std.proofs.lemmas.Bool.{or_parts}
 use Rattle.synthesis.specs.Recursion.{outside, some_outside, some_list_outside, first_list_outside}
 
 -- ---- two flags
@@ -34,7 +34,7 @@ unfolding outside
 inside_clamp z e =
     let l = lt_z z (least w32) in
     let h = lt_z (most w32) z in
-    clamp_mid w32 z (or_left l h e) (or_right l h e)
+    clamp_mid w32 z (or_parts l h e).0 (or_parts l h e).1
 
 pub inside_fits : (z : ℤ) → outside z ≡ false → SFits w32 z
 inside_fits z e = subst (SFits w32) (inside_clamp z e) (clamp_fits w32 z)
@@ -66,8 +66,8 @@ module _ (us : List ℤ) (u v : ℤ) where
   pub two_none : some_outside (us ++ (u ∷ v ∷ [])) ≡ false → (some_outside us ≡ false) × ((outside u ≡ false) × (outside v ≡ false))
   two_none e =
       let f : (some_outside us || (outside u || outside v)) ≡ false = sym leaves_two ∙ e in
-      let g = or_right (some_outside us) (outside u || outside v) f in
-      (or_left (some_outside us) (outside u || outside v) f, (or_left (outside u) (outside v) g, or_right (outside u) (outside v) g))
+      let g = or_parts (some_outside us) (outside u || outside v) f in
+      (g.0, or_parts (outside u) (outside v) g.1)
 
 -- ---- a list of lists
 pub any_append : (us vs : List (List ℤ)) → some_list_outside (us ++ vs) ≡ (some_list_outside us || some_list_outside vs)
@@ -79,12 +79,12 @@ any_append (u ∷ us) vs = rw (any_append us vs) (sym (or_assoc (some_outside u)
 pub at_append : (us vs : List (List ℤ)) → some_list_outside us ≡ false → first_list_outside (us ++ vs) ≡ length us + first_list_outside vs
 unfolding some_list_outside first_list_outside
 at_append [] vs e = sym (zero-add (first_list_outside vs))
-at_append (u ∷ us) vs e = rw (or_left (some_outside u) (some_list_outside us) e, at_append us vs (or_right (some_outside u) (some_list_outside us) e)) (sym (suc-add (length us) (first_list_outside vs)))
+at_append (u ∷ us) vs e = rw ((or_parts (some_outside u) (some_list_outside us) e).0, at_append us vs (or_parts (some_outside u) (some_list_outside us) e).1) (sym (suc-add (length us) (first_list_outside vs)))
 
 pub at_none : (us : List (List ℤ)) → some_list_outside us ≡ false → first_list_outside us ≡ length us
 unfolding some_list_outside first_list_outside
 at_none [] e = refl
-at_none (u ∷ us) e = rw (or_left (some_outside u) (some_list_outside us) e, at_none us (or_right (some_outside u) (some_list_outside us) e))
+at_none (u ∷ us) e = rw ((or_parts (some_outside u) (some_list_outside us) e).0, at_none us (or_parts (some_outside u) (some_list_outside us) e).1)
 
 pub at_here : (u : List ℤ) (us : List (List ℤ)) → some_outside u ≡ true → first_list_outside (u ∷ us) ≡ 0
 unfolding first_list_outside

@@ -5,11 +5,12 @@ use Prim.Native.Nat.{◌≤◌}
 use lib.IntN.{ℤ, pos, nat_abs, ◌-ℤ◌, ◌*ℤ◌}
 use mir.Syntax.{w32}
 use mir.Val.{SFits}
-use Rattle.basicop.proofs.Ints.{eq_in, sfits_by, sub_ℤ_is, mul_is}
+use borrow.Author.Differences.{same_in, product_is}
+use Rattle.basicop.proofs.Ints.{sfits_by, sub_ℤ_is}
 use Rattle.basicop.proofs.Range.{nat_abs_is}
 
 pub double_sub : (s p : ℤ) → pos 2 *ℤ (s -ℤ p) ≡ pos 2 *ℤ s -ℤ pos 2 *ℤ p
-double_sub s p = eq_in _ _ (omega (arith, mul_is (pos 2) (s -ℤ p), sub_ℤ_is s p, sub_ℤ_is (pos 2 *ℤ s) (pos 2 *ℤ p), mul_is (pos 2) s, mul_is (pos 2) p))
+double_sub s p = same_in _ _ (omega (arith, product_is (pos 2) (s -ℤ p), sub_ℤ_is s p, sub_ℤ_is (pos 2 *ℤ s) (pos 2 *ℤ p), product_is (pos 2) s, product_is (pos 2) p))
 
 pub small_twice : (z : ℤ) → nat_abs z ≤ 1073709056 → SFits w32 (pos 2 *ℤ z)
-small_twice z h = sfits_by (omega (arith, nat_abs_is z, mul_is (pos 2) z))
+small_twice z h = sfits_by (omega (arith, nat_abs_is z, product_is (pos 2) z))

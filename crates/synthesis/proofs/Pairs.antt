@@ -1,7 +1,7 @@
--- The loops over the taps go over the row from its second coefficient on and the ten samples from the newest back, side by side. Assumes nothing.
+-- The loops and folds over the taps go over the row from its second coefficient on and the ten samples from the newest back, side by side. Assumes nothing.
 use Prim.Native.Nat.{ℕ, suc, ◌+◌, ◌-◌, ◌<◌}
-use mathlib.Core.Path.{◌≡◌, ap, ◌∙◌}
-use mathlib.Core.List.{List, reverse}
+use mathlib.Core.Path.{◌≡◌, refl, ap, ◌∙◌}
+use mathlib.Core.List.{List, reverse, foldl}
 use native.Mathlib.Omega.{arith}
 use denote.Ref.{Bor}
 use lib.IntN.{ℤ, pos}
@@ -22,7 +22,10 @@ use Rattle.std.proofs.lemmas.Iterator.Consumers.{YieldsList-turn, YieldsList-end
 use Rattle.std.proofs.lemmas.Slice.Zip.{length-zip, get_or-zip}
 use Rattle.std.proofs.lemmas.List.{length-reverse, get_or-reverse, get_or-drop, get_or_default}
 use Rattle.lists.specs.Lists.{at}
+use Rattle.lists.proofs.Fold.{fold_counted}
+use Rattle.basicop.specs.Ops.{l_mult, l_msu}
 use Rattle.synthesis.specs.Recursion.{ago}
+use Rattle.synthesis.specs.Synthesis.{acc}
 
 -- ---- the taps from 1 on, each beside the sample that it takes: the newest first
 abbrev pub pairs : List ℤ → List ℤ → List (ℤ × ℤ)
@@ -47,6 +50,16 @@ module _ (a y : List ℤ) (la : length a ≡ 11) (ly : length y ≡ 10) where
       let z : get_or (reverse y) k d.1 ≡ ago y (suc k) = get_or-reverse y k d.1 v ∙ rw e (get_or_default y (length y - suc k) d.1 (pos 0) (omega (arith, ly))) in
       get_or-zip (take 10 (drop 1 a)) (reverse y) k d u w ∙ rw (c, z)
 
+  -- a fold over them, where t k is what stands after tap k
+  fold_taps : {S : Type 0} (f : S → ℤ → ℤ → S) (t : ℕ → S) → ((k : ℕ) → k < 10 → t (suc k) ≡ f (t k) (at a (suc k)) (ago y (suc k))) → foldl (λ (s : S) (p : ℤ × ℤ). f s p.0 p.1) (t 0) (pairs a y) ≡ t 10
+  fold_taps f t e =
+      rw pairs_length at (fold_counted (λ (s : _) (p : ℤ × ℤ). f s p.0 p.1) t (pairs a y) (λ k d h. let l : k < 10 = omega (arith, pairs_length) in rw (pairs_at k d l) (e k l)))
+
+  -- the clamped sum is one
+  pub fold_acc : (x : ℤ) → foldl (λ (s : ℤ) (p : ℤ × ℤ). l_msu s p.0 p.1) (l_mult x (at a 0)) (pairs a y) ≡ acc a x y 10
+  unfolding acc
+  fold_acc x = fold_taps l_msu (acc a x y) (λ k h. refl)
+
 -- tap k + 1, where k are done
 pub record Tap (a y : List ℤ) (k : ℕ) (c v : ℤ) : Type 0 where
   pub more : k < 10
@@ -57,7 +70,7 @@ abbrev pub Walk : Type 0
 Walk = Zip (Iter ℤ) (Rev (Iter ℤ))
 
 module _ (a y : List ℤ) (la : length a ≡ 11) (ly : length y ≡ 10) (s : Walk) (first : iter_rest (zip_first s) ≡ take 10 (drop 1 a)) (second : iter_rest (rev_source (zip_second s)) ≡ y) where
-  road : YieldsList (zips fronts (rev_steps iter_steps_back)) (λ (p : Bor ℤ × Bor ℤ). (p.0.now, p.1.now)) s (pairs a y)
+  pub road : YieldsList (zips fronts (rev_steps iter_steps_back)) (λ (p : Bor ℤ × Bor ℤ). (p.0.now, p.1.now)) s (pairs a y)
   road = YieldsList-from_zip (YieldsList-from_slice (take 10 (drop 1 a)) first) (YieldsList-from_rev_slice y second)
 
   module _ (xs : List (Bor ℤ × Bor ℤ)) (t u : Walk) (run : Yields (zips fronts (rev_steps iter_steps_back)) s xs t) where

@@ -11,6 +11,7 @@ use lib.ListN.{length, length-append, length-drop, drop_of_length-le, take, drop
 use lib.Seq.{take_all, length-take-le}
 use mir.Syntax.{w16}
 use mir.Val.{SFits}
+use Rattle.std.proofs.lemmas.List.{drop-take}
 use Rattle.lists.specs.Lists.{at}
 use Rattle.basicop.specs.Words.{Words}
 use Rattle.basicop.proofs.Fits.{round_fits}
@@ -19,9 +20,9 @@ use Rattle.synthesis.specs.Recursion.{recursion}
 use Rattle.synthesis.specs.Synthesis.{accs, unheld, unhelds, sample, samples, overflowed, overflowed_at, first_samples, shifted, previewed, newest}
 use Rattle.synthesis.specs.Whole.{sums, wholes, whole, whole_samples}
 use Rattle.synthesis.proofs.Flags.{any_by_at, at_most}
-use Rattle.synthesis.proofs.Fed.{length_fed, fed_starts, fed_append, fed_each, length_numbers, cut}
+use Rattle.synthesis.proofs.Fed.{length_fed, fed_starts, fed_append, fed_each, length_numbers}
 
--- ---- 23 numbers a sample
+-- ---- 23 numbers a sample, by either machine
 length_sums : (a : List ℤ) (x : ℤ) (y : List ℤ) (k : ℕ) → length (sums a x y k) ≡ 2 * k + 1
 unfolding sums
 length_sums a x y zero = refl
@@ -60,7 +61,7 @@ samples_take n m a xs h l e =
     let z : recursion make xs h ≡ recursion make (drop n xs) (recursion make (take n xs) h) = sym (ap (λ (u : List ℤ). recursion make u h) (take-append-drop n xs)) ∙ fed_append make (take n xs) (drop n xs) h in
     let k : length (recursion make (take n xs) h) ≡ m + n = length_fed make (take n xs) h ∙ rw (length-take-le n xs e, l) in
     let f : take (m + n) (recursion make xs h) ≡ recursion make (take n xs) h = rw (← k, z) (fed_starts make (drop n xs) (recursion make (take n xs) h)) in
-    ap (drop m) (sym f) ∙ cut m n (recursion make xs h) h (rw l at (fed_starts make xs h)) l
+    ap (drop m) (sym f) ∙ drop-take m n (recursion make xs h)
 
 -- ---- the samples for the whole excitation
 pub first_samples_all : (n m : ℕ) (a xs h : List ℤ) → length xs ≤ n → first_samples n m a xs h ≡ samples m a xs h

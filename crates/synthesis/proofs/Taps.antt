@@ -1,13 +1,17 @@
--- The loops over the taps, before tap k. Assumes nothing.
+-- The sums over the taps, before tap k, and the weight of a row. Assumes nothing.
 use Prim.Native.Nat.{ℕ, zero, suc, ◌+◌, ◌*◌, ◌-◌, ◌≤◌, ◌<◌}
-use mathlib.Core.Path.{◌≡◌, refl, sym, ap, ◌∙◌}
+use mathlib.Core.Path.{◌≡◌, sym, ap, ◌∙◌}
 use mathlib.Core.Bool.{false}
 use mathlib.Core.List.{List}
+use lib.Signed.{nat_abs-le}
+use lib.ListN.{length}
+use Rattle.std.specs.List.{sum_by}
+use Rattle.std.proofs.lemmas.List.{get_or_default}
+use Rattle.lists.proofs.Fold.{fold_counted}
 use native.Mathlib.Nat.{zero-add, suc-add}
-use native.Mathlib.Numerals.{add-one}
 use native.Mathlib.Omega.{arith}
 use lib.IntN.{ℤ, pos, nat_abs, ◌-ℤ◌, ◌*ℤ◌}
-use mir.Syntax.{w32}
+use mir.Syntax.{w16, w32}
 use mir.Val.{SFits}
 use Rattle.lists.specs.Lists.{at}
 use Rattle.basicop.specs.Ops.{l_mult}
@@ -65,18 +69,19 @@ is_sum_more {a} {x} {y} {s} {s'} {p} {k} r ep fp es fs =
     }
 
 -- ---- of a row whose weight is below 32768 no number up to the sum lies outside
--- the weight of the first k coefficients
-pub record Weighed (a : List ℤ) (w k : ℕ) : Type 0 where
-  pub is : w ≡ sizes (at a) k
-  pub most : w ≤ k * 32768
-
-pub weighed_none : {a : List ℤ} → Weighed a 0 0
+-- the weight, as a sum over the row; of numbers of 16 bits it is small
+pub weight_sum : (a : List ℤ) → length a ≡ 11 → sum_by nat_abs a ≡ weight a
 unfolding sizes
-weighed_none = record { is = refl; most = omega arith }
+weight_sum a l =
+    rw l at (fold_counted (λ (n : ℕ) (x : ℤ). n + nat_abs x) (sizes (at a)) a (λ k d h. rw (get_or_default a k d (pos 0) h)))
 
-pub weighed_more : {a : List ℤ} {w v k : ℕ} → Weighed a w k → v ≡ nat_abs (at a k) → v ≤ 32768 → Weighed a (w + v) (k + 1)
+sizes_most_of : (f : ℕ → ℤ) (n : ℕ) → ((k : ℕ) → nat_abs (f k) ≤ 32768) → sizes f n ≤ n * 32768
 unfolding sizes
-weighed_more {k = k} r e l = record { is = rw (add-one k, r.is, e); most = omega (arith, r.most) }
+sizes_most_of f zero h = omega arith
+sizes_most_of f (suc n) h = omega (arith, sizes_most_of f n h, h n)
+
+pub weight_most : (a : List ℤ) → ((k : ℕ) → SFits w16 (at a k)) → weight a ≤ 360448
+weight_most a f = sizes_most_of (at a) 11 (λ k. nat_abs-le (at a k) (f k).sfits)
 
 -- half the sum after k taps
 pub record Light (a : List ℤ) (x : ℤ) (y : List ℤ) (half : ℤ) (k : ℕ) : Type 0 where

@@ -6,8 +6,9 @@ use native.Mathlib.Omega.{arith}
 use lib.IntN.{ℤ}
 use lib.ListN.{length, take, drop, length-drop}
 use lib.Seq.{length-take-le}
+use Rattle.std.proofs.lemmas.List.{drop-take}
 use Rattle.lists.specs.Lists.{at}
-use Rattle.lists.proofs.Entries.{at_drop, stretch_taken}
+use Rattle.lists.proofs.Entries.{at_drop}
 use Rattle.synthesis.specs.Recursion.{ago}
 use Rattle.synthesis.specs.Synthesis.{acc, accs, unheld, sample}
 
@@ -34,10 +35,10 @@ module _ (a : List ℤ) (x : ℤ) (buf : List ℤ) (n : ℕ) (h : n + 10 ≤ len
   room = rw (length-take-le (n + 10) buf h) (omega arith)
 
   pub acc_window : acc a x (take 10 (drop n buf)) 10 ≡ acc a x (take (n + 10) buf) 10
-  acc_window = rw (← stretch_taken n 10 buf) (acc_newest a x (take (n + 10) buf) n 10 room)
+  acc_window = rw (← drop-take n 10 buf) (acc_newest a x (take (n + 10) buf) n 10 room)
 
   pub sample_window : sample 10 a x (take 10 (drop n buf)) ≡ sample 10 a x (take (n + 10) buf)
   sample_window = rw acc_window
 
   pub unheld_window : unheld 10 a x (take 10 (drop n buf)) ≡ unheld 10 a x (take (n + 10) buf)
-  unheld_window = rw (acc_window, ← stretch_taken n 10 buf) (rw (accs_newest a x (take (n + 10) buf) n 10 room))
+  unheld_window = rw (acc_window, ← drop-take n 10 buf) (rw (accs_newest a x (take (n + 10) buf) n 10 room))

@@ -29,7 +29,7 @@ accs a x y (suc k) =
     accs a x y k
     ++ ((pos 2 *ℤ (at a (suc k) *ℤ ago y (suc k))) ∷ (acc a x y k -ℤ l_mult (at a (suc k)) (ago y (suc k))) ∷ [])
 
--- all of them, 2m + 3: 23 in MR74. Then times 8; plus 32768
+-- all of them, 2m + 3: 23 in MR74 (`length_unheld`). Then times 8; plus 32768
 abbrev pub unheld : ℕ → List ℤ → ℤ → List ℤ → List ℤ
 unheld m a x y = accs a x y m ++ ((acc a x y m *ℤ pos 8) ∷ (shifted m a x y +ℤ pos 32768) ∷ [])
 

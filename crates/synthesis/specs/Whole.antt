@@ -28,7 +28,7 @@ scaled m a x y = sum a x y m *ℤ pos 8
 abbrev pub last : ℕ → List ℤ → ℤ → List ℤ → ℤ
 last m a x y = scaled m a x y +ℤ pos 32768
 
--- all 2m + 3 numbers of a sample: "23 whole numbers, none clamped"
+-- all 2m + 3 numbers of a sample: "23 whole numbers, none clamped" (`length_wholes`)
 abbrev pub wholes : ℕ → List ℤ → ℤ → List ℤ → List ℤ
 wholes m a x y = sums a x y m ++ (scaled m a x y ∷ last m a x y ∷ [])
 

@@ -2,20 +2,20 @@
 ghost use Rattle.std.specs.Prelude.{◌≡◌, ◌≤◌};
 ghost use Rattle.synthesis.specs.Synthesis.{acc, first_samples, filtered};
 
-use super::buffer::{newest, window};
+use super::buffer::newest;
 use super::{Filtered, Row};
 use basicop::{l_msu, l_mult, l_shl, round};
-use copy::{padded, stretch};
+use copy::{padded, stretch, window};
 
 // The sum for a sample, from its number of the excitation and the ten samples before it.
 fn accumulated(a: &[i16; 11], x: i16, y: &[i16; 10]) -> i32
     ensures { result ≡ acc a.now x y.now 10 }
 {
-    let mut s = l_mult(x, a[0]);
-    for (c, v) in a[1..].iter().zip(y.iter().rev()) {
-        s = l_msu(s, *c, *v);
-    }
-    s
+    let first = l_mult(x, a[0]);
+    a[1..]
+        .iter()
+        .zip(y.iter().rev())
+        .fold(first, |s, (c, v)| l_msu(s, *c, *v))
 }
 
 impl Row {

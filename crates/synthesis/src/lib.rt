@@ -6,7 +6,7 @@ mod clamped;
 mod row;
 mod whole;
 
-pub use buffer::{newest, window};
+pub use buffer::newest;
 pub use clamped::{filter, first_samples};
 pub use row::Row;
 pub use whole::preview;

@@ -15,10 +15,10 @@ impl Row {
     pub fn new(coefficients: [i16; 11]) -> Row
         ensures { result.coefficients ≡ coefficients }
     {
-        let mut weight: u32 = 0;
-        for a in coefficients {
-            weight += u32::from(a.unsigned_abs());
-        }
+        let weight: u32 = coefficients
+            .iter()
+            .map(|a| u32::from(a.unsigned_abs()))
+            .sum();
         let light = weight < 32768;
         Row {
             coefficients,

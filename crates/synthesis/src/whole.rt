@@ -8,9 +8,8 @@ ghost use Rattle.synthesis.specs.Synthesis.{unheld, sample, previewed};
 ghost use Rattle.synthesis.specs.Whole.{sum, sums};
 ghost use Rattle.synthesis.specs.Inner.{IsSum};
 
-use super::buffer::window;
 use super::{Output, Row};
-use copy::{padded, stretch};
+use copy::{padded, stretch, window};
 
 // A product, before it is doubled.
 fn product(a: i16, y: i16) -> i32

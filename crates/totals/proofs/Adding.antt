@@ -5,8 +5,6 @@ use mathlib.Core.Bool.{Bool, true, false, cond}
 use mathlib.Core.List.{List, [], ◌∷◌, map}
 use native.Mathlib.Nat.{add-zero}
 use native.Mathlib.Omega.{arith}
-use borrow.Author.Tests.{eqb-true, eqb-false}
-use lib.Dec.{eqb}
 use lib.IntN.{ℤ, pos, nat_abs, ◌+ℤ◌, +ℤ_idr}
 use lib.ListN.{length}
 use mir.Syntax.{w32}
@@ -31,7 +29,7 @@ use Rattle.sheets.specs.Sheets.{sheet_call}
 use Rattle.shift_report.specs.declared.Totals.{Totals}
 use Rattle.shift_report.specs.Totals.{retried_in, square_sum, accepted_count, refused_count, retried_total, square_total, peak_total, totals_of}
 use Rattle.shift_report.specs.Report.{call_of}
-use Rattle.shift_report.specs.Steps.{plus, sheets_counted, TotalsStep, totals_step, step_of, Bounded}
+use Rattle.shift_report.specs.Steps.{plus, sheets_counted, totals_step, step_of, Bounded}
 use Rattle.shift_report.proofs.Plus.{made, totals_same, counts, plus_count}
 use Rattle.shift_report.proofs.Shares.{share_by, one_share}
 use Rattle.shift_report.proofs.Bounds.{share_bounded, bounded_plus}
@@ -87,18 +85,25 @@ module _ (sums : Totals) (s : State) (bytes : List ℕ) where
   unfolding sheet_call frame_call
   called = refl
 
-  pub added_call : (a : FrameAnswer) (xs : List ℤ) (r : Totals) → length bytes ≡ 364 → call_result a xs ≡ sheet_call bytes s → Adds sums a.outcome a.places xs r
-      → totals_step r a.next true ≡ step_of sums s bytes
-  added_call a xs r e f g =
+  -- the call's trace is the one that is added
+  trace_added : (a : FrameAnswer) (xs : List ℤ) (r : Totals) → call_result a xs ≡ sheet_call bytes s → Adds sums a.outcome a.places xs r
+      → r ≡ plus sums (totals_of (trace_of s (call_of bytes) ∷ []))
+  trace_added a xs r f g =
       let h = f ∙ called in
-      let t = trace_of s (call_of bytes) in
-      ap (λ (x : Totals). totals_step x a.next true) (g t (ap (λ (k : CallResult). k.answer.outcome) h) (ap (λ (k : CallResult). k.answer.places) h) (ap (λ (k : CallResult). k.lent) h))
-      ∙ ap (λ (k : CallResult). totals_step (plus sums (totals_of (t ∷ []))) k.answer.next true) h
+      g (trace_of s (call_of bytes)) (ap (λ (k : CallResult). k.answer.outcome) h) (ap (λ (k : CallResult). k.answer.places) h) (ap (λ (k : CallResult). k.lent) h)
+
+  pub call_added : (a : FrameAnswer) (xs : List ℤ) (r : Totals) → length bytes ≡ 364 → call_result a xs ≡ sheet_call bytes s → Adds sums a.outcome a.places xs r
+      → totals_step r a.next true ≡ step_of sums s bytes
+  call_added a xs r e f g =
+      ap (λ (x : Totals). totals_step x a.next true) (trace_added a xs r f g)
+      ∙ ap (λ (k : CallResult). totals_step (plus sums (totals_of (trace_of s (call_of bytes) ∷ []))) k.answer.next true) (f ∙ called)
       ∙ sym (added_whole sums s bytes e)
 
-  pub step_counted : (r : TotalsStep) → r ≡ step_of sums s bytes → sheets_counted r.totals ≤ sheets_counted sums + 1
-  step_counted r q = go (eqb (length bytes) 364) refl
-    where
-      go : (t : Bool) → eqb (length bytes) 364 ≡ t → sheets_counted r.totals ≤ sheets_counted sums + 1
-      go true e = rw (q, added_whole sums s bytes (eqb-true (length bytes) 364 e)) (omega (arith, plus_count sums (totals_of (trace_of s (call_of bytes) ∷ [])), counts (trace_of s (call_of bytes) ∷ [])))
-      go false e = rw (q, added_none sums s bytes (eqb-false (length bytes) 364 e)) (omega arith)
+  pub call_counted : (a : FrameAnswer) (xs : List ℤ) (r : Totals) → call_result a xs ≡ sheet_call bytes s → Adds sums a.outcome a.places xs r
+      → sheets_counted r ≤ sheets_counted sums + 1
+  call_counted a xs r f g =
+      let ts = trace_of s (call_of bytes) ∷ [] in
+      omega (arith, ap sheets_counted (trace_added a xs r f g), plus_count sums (totals_of ts), counts ts)
+
+  pub none_counted : ¬ (length bytes ≡ 364) → totals_step sums s false ≡ step_of sums s bytes
+  none_counted e = sym (added_none sums s bytes e)

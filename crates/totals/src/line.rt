@@ -1,10 +1,9 @@
 // The report's line.
 ghost use Rattle.std.specs.Prelude.{◌≡◌, ◌<◌, ◌≤◌, ◌+◌, length, ◌++◌, []};
 ghost use Rattle.lines.specs.Lines.{decimal, field};
-ghost use Rattle.lines.specs.Room.{line_room};
 ghost use Rattle.shift_report.specs.Report.{mean_of, mean_field, report_line};
 
-use lines::Line;
+use lines::{Line, Text};
 use shift_report::Totals;
 
 // The mean of so many numbers by their sum, rounded toward minus infinity.
@@ -17,8 +16,8 @@ pub fn mean(sum: i32, count: u64) -> i32
 
 // The mean of so many peaks, or `none`.
 #[tactic(auto, using(shift_report::proofs::Lines::mean_none, shift_report::proofs::Lines::mean_some))]
-fn push_mean(line: &mut Line, sum: i32, count: u64)
-    requires { length line.old + 21 ≤ line_room }
+fn push_mean<const ROOM: usize>(line: &mut Text<ROOM>, sum: i32, count: u64)
+    requires { length line.old + 21 ≤ ROOM }
     ensures line { line.new ≡ line.old ++ mean_field sum count }
     ensures within { length line.new ≤ length line.old + 21 }
 {
@@ -31,8 +30,8 @@ fn push_mean(line: &mut Line, sum: i32, count: u64)
 }
 
 // A number and a space after it.
-fn push_field(line: &mut Line, n: u64)
-    requires { length line.old + 21 ≤ line_room }
+fn push_field<const ROOM: usize>(line: &mut Text<ROOM>, n: u64)
+    requires { length line.old + 21 ≤ ROOM }
     ensures line { line.new ≡ line.old ++ field (decimal n) [] }
     ensures within { length line.new ≤ length line.old + 21 }
 {

@@ -1,5 +1,5 @@
 // Running sums, and what a call adds to them.
-ghost use Rattle.std.specs.Prelude.{◌≡◌, [], ◌≤◌, ◌^◌};
+ghost use Rattle.std.specs.Prelude.{◌≡◌, []};
 ghost use Rattle.shift_report.specs.Totals.{retried_in, square, square_sum, totals_of};
 ghost use Rattle.totals.specs.Inner.{Adds, OneMore};
 ghost use Rattle.shift_report.specs.Steps.{Bounded};
@@ -24,8 +24,7 @@ fn retried(places: [usize; 4]) -> u64
 }
 
 fn square(x: i16) -> u64
-    ensures square { result ≡ square x }
-    ensures most { result ≤ 2 ^ 30 }
+    ensures { result ≡ square x }
 {
     let distance = u64::from(x.unsigned_abs());
     distance * distance
@@ -34,11 +33,7 @@ fn square(x: i16) -> u64
 fn square_sum(samples: [i16; SAMPLES]) -> u64
     ensures { result ≡ square_sum samples }
 {
-    let mut sum = 0;
-    for sample in samples {
-        sum += square(sample);
-    }
-    sum
+    samples.iter().map(|x| square(*x)).sum()
 }
 
 // The sums with a call more: an accepted one brings all its numbers, a refused one is counted alone.

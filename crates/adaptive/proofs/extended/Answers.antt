@@ -1,10 +1,11 @@
 -- `adaptive::extended` meets its contract: n samples are made, and `plain` is the test of all that stands.
 use mathlib.Core.Path.{refl, sym, ap, ◌∙◌}
-use Prim.Native.Nat.{◌+◌, ◌-◌, ◌*◌}
+use Prim.Native.Nat.{◌+◌, ◌/◌}
 use borrow.Author.Rules.{rules}
 use native.Mathlib.Omega.{arith}
 use lib.IntN.{pos, ◌-ℤ◌}
-use lib.ListN.{take, drop}
+use mathlib.Core.List.{[]}
+use lib.ListN.{take, get_or}
 use lib.Seq.{take_at}
 use mathlib.Core.Path.{◌≡◌}
 use mir.Syntax.{w16}
@@ -32,20 +33,19 @@ overflow_add-start c =
 pub sample-y-requires : goal.sample-y-requires
 sample-y-requires c =
     let range = start_range c.args.lag _ c.requires.0 c.requires.1 c.start_of-start.ensures in
-    let row = lag_row c.args.lag _ _ c.phase_of-from.ensures.value c.all_taps-all.ensures in
+    let row = lag_row c.args.lag _ _ c.phase_of.ensures.value c.all_taps-rows.ensures in
     record {
-      places = (omega (arith, range.0), (omega (arith, range.1, c.loop-n-test.true), row.twenty));
+      places = (omega (arith, range.0), omega (arith, range.1, c.loop-n-test.true));
       quiet = (row.light, tested_yes c.loop-n.invariant.1.1 (c.start_of-start.result + c.loop-n.n + 11) (omega (arith, range.1)));
     }
 
 pub loop-n-preserved : goal.loop-n-preserved
 loop-n-preserved c =
     let range = start_range c.args.lag _ c.requires.0 c.requires.1 c.start_of-start.ensures in
-    let row = lag_row c.args.lag _ _ c.phase_of-from.ensures.value c.all_taps-all.ensures in
+    let row = lag_row c.args.lag _ _ c.phase_of.ensures.value c.all_taps-rows.ensures in
     let n = c.loop-n.n in
     let f = phase (lag_of c.args.lag) in
-    let from = 10 * c.phase_of-from.result in
-    let taps = take (from + 20 - from) (drop from c.all_taps-all.result) in
+    let taps = get_or c.all_taps-rows.result (c.phase_of.result / 2) [] in
     let all = c.loop-n.invariant.1 in
     let here = sample_same c.loop-n.buffer (c.start_of-start.result + n) (154 + n) (left_of taps) (coefficient f) (right_of taps) (coefficient (pos 6 -ℤ f)) (omega (arith, range.0)) (omega (arith, range.1)) row.left row.right c.sample-y.ensures in (
       omega (arith, c.loop-n-test.true),

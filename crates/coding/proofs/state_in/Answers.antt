@@ -1,20 +1,19 @@
 -- `coding::state_in`: core and postfilter are split off, as the numbers are cut.
-use mathlib.Core.Path.{◌≡◌, ap, ◌∙◌}
-use mathlib.Core.List.{[], ◌∷◌, append-nil}
+use mathlib.Core.Path.{ap, ap₂, ◌∙◌}
+use mathlib.Core.List.{List}
+use Prim.Native.Nat.{ℕ}
 use native.Mathlib.Omega.{arith}
-use Rattle.lists.specs.Parts.{joined}
-use Rattle.lists.proofs.Parts.{Counted}
-use Rattle.state.specs.Layout.{counts, state_parts, state_from, state_of}
-use Rattle.coding.proofs.Words.{doubled, words_parts}
+use Rattle.state.specs.Layout.{core_of, post_of, state_from, state_of}
+use Rattle.state.specs.declared.State.{State}
+use Rattle.coding.specs.Bytes.{words}
+use Rattle.coding.proofs.Words.{two_parts}
 use Rattle.coding.proofs.state_in.Goals as goal
 
 pub returns : goal.returns
 unfolding state_of
 returns c =
-    let core = c.split_at.result.0.now in
-    let post = c.split_at.result.1.now in
-    let ps = core ∷ post ∷ [] in
-    let all : c.args.body.now ≡ joined ps = cc (append-nil post, c.split_at.ensures.by_index.0) in
-    let counted : Counted (doubled (counts state_parts)) ps = (omega arith, (omega arith, tt)) in
+    let core = rw c.unwrap.ensures at c.as_array.ensures.cases in
+    let post = rw c.unwrap-2.ensures at c.as_array-2.ensures.cases in
     (λ i. record { core = c.core_in.ensures i; post = c.post_in.ensures i })
-    ∙ ap state_from (words_parts (counts state_parts) ps c.args.body.now all counted)
+    ∙ ap₂ (λ (x y : List ℕ). let s : State = record { core = core_of (words x); post = post_of (words y) } in s) core.same post.same
+    ∙ ap state_from (two_parts 175 22 _ _ c.split_at.ensures.by_index.0 c.split_at.ensures.front_len (omega arith))

@@ -4,13 +4,12 @@ use mathlib.Core.List.{List, map}
 use Prim.Native.Nat.{ℕ, suc}
 use lib.IntN.{ℤ, pos}
 use lib.ListN.{length}
-use lib.Signed.{◌≤ℤ◌, ◌<ℤ◌}
+use lib.Signed.{◌<ℤ◌}
 use Rattle.lists.specs.Lists.{at, tab}
 use Rattle.energy.specs.Energy.{energy}
 use Rattle.energy.specs.Gain.{energy_gain, scaled_by, target, smoothed, controlled, agc2, agc}
 use Rattle.energy.specs.declared.Controlled.{Controlled}
 use Rattle.energy.proofs.Tests.{above_zero}
-use Rattle.energy.proofs.Sums.{energy_none}
 
 -- sample k of agc
 abbrev pub sample_of : ℤ → ℤ → List ℤ → ℕ → ℤ
@@ -21,18 +20,18 @@ unfolding controlled
 controlled_is goal gain g out r n l e h = rw (l, e, h)
 
 -- ---- by the test of the output's energy: it is 0, or above 0
-pub agc2_none : (into out : List ℤ) → energy out ≤ℤ pos 0 → out ≡ (agc2 into out).value
+pub agc2_none : (into out : List ℤ) → energy out ≡ pos 0 → out ≡ (agc2 into out).value
 unfolding agc2
-agc2_none into out h = rw (energy_none out h)
+agc2_none into out h = rw h
 
 pub agc2_some : (into out : List ℤ) → pos 0 <ℤ energy out → map (scaled_by (energy_gain (energy out) (energy into)).value) out ≡ (agc2 into out).value
 unfolding agc2
 agc2_some into out p = rw (above_zero (energy out) p)
 
 -- document 01: "Zero output energy leaves samples and sets the smoothed gain to 0"
-pub agc_none : (gain : ℤ) (into out : List ℤ) → energy out ≤ℤ pos 0 → ◌≡◌ {A = Controlled} (record { samples = out; control = record { previous_gain = pos 0 } }) (agc gain into out).value
+pub agc_none : (gain : ℤ) (into out : List ℤ) → energy out ≡ pos 0 → ◌≡◌ {A = Controlled} (record { samples = out; control = record { previous_gain = pos 0 } }) (agc gain into out).value
 unfolding agc
-agc_none gain into out h = rw (energy_none out h)
+agc_none gain into out h = rw h
 
 pub agc_some : (gain : ℤ) (into out : List ℤ) → pos 0 <ℤ energy out → controlled (target (energy_gain (energy out) (energy into)).value) gain out ≡ (agc gain into out).value
 unfolding agc

@@ -1,6 +1,6 @@
 -- The table of the inverse root: 49 entries within 16384..=32767, each less than the one before it, by at most 977. Assumes nothing.
 use mathlib.Core.Path.{◌≡◌, refl}
-use mathlib.Core.Bool.{Bool, ◌||◌}
+use mathlib.Core.Bool.{Bool, ◌&&◌, ◌||◌}
 use Prim.Native.Nat.{ℕ, ◌+◌, ◌<◌}
 use native.Mathlib.Omega.{arith}
 use borrow.Author.Tests.{lt-leb}
@@ -9,7 +9,7 @@ use lib.IntN.{ℤ, pos, negsuc, ◌+ℤ◌}
 use lib.ListN.{length}
 use lib.Signed.{le_z, lt_z, ◌≤ℤ◌, ◌<ℤ◌, le_z_yes, lt_z_yes}
 use Rattle.lists.specs.Lists.{at, entry}
-use Rattle.lists.proofs.Table.{at_each, both, both_left, both_right}
+use Rattle.lists.proofs.Table.{at_each, both_pass}
 use Rattle.basicop.proofs.Ints.{arith_ℤ}
 use Rattle.energy.specs.Root.{inverse_table}
 
@@ -19,13 +19,13 @@ table_length = refl
 
 -- the one test: an entry's range, and of all but the last the step to the next
 range : ℤ → Bool
-range x = both (le_z (pos 16384) x) (le_z x (pos 32767))
+range x = le_z (pos 16384) x && le_z x (pos 32767)
 
 step : ℤ → ℤ → Bool
-step x next = both (lt_z next x) (le_z x (next +ℤ pos 977))
+step x next = lt_z next x && le_z x (next +ℤ pos 977)
 
 rule : ℕ → ℤ → Bool
-rule k x = both (range x) (leb 48 k || step x (at inverse_table (k + 1)))
+rule k x = range x && (leb 48 k || step x (at inverse_table (k + 1)))
 
 tested : (k : ℕ) → k < 49 → T (rule k (at inverse_table k))
 unfolding inverse_table rule range step
@@ -43,16 +43,16 @@ pub entry_in : (k : ℕ) → k < 49 → Entry (at inverse_table k)
 unfolding rule range
 entry_in k h =
     let x = at inverse_table k in
-    let t = both_left (range x) _ (tested k h) in
-    record { from = le_z_yes (both_left (le_z (pos 16384) x) (le_z x (pos 32767)) t); to = le_z_yes (both_right (le_z (pos 16384) x) (le_z x (pos 32767)) t) }
+    let t = both_pass (le_z (pos 16384) x) (le_z x (pos 32767)) (both_pass (range x) _ (tested k h)).0 in
+    record { from = le_z_yes t.0; to = le_z_yes t.1 }
 
 pub entry_step : (k : ℕ) → k < 48 → Step (at inverse_table k) (at inverse_table (k + 1))
 unfolding rule step
 entry_step k h =
     let x = at inverse_table k in
     let y = at inverse_table (k + 1) in
-    let t = rw (lt-leb 48 k h) at (both_right (range x) _ (tested k (omega arith))) in
-    record { falls = lt_z_yes (both_left (lt_z y x) (le_z x (y +ℤ pos 977)) t); small = le_z_yes (both_right (lt_z y x) (le_z x (y +ℤ pos 977)) t) }
+    let t = both_pass (lt_z y x) (le_z x (y +ℤ pos 977)) (rw (lt-leb 48 k h) at (both_pass (range x) _ (tested k (omega arith))).1) in
+    record { falls = lt_z_yes t.0; small = le_z_yes t.1 }
 
 -- at an integer index: its entry, and the next
 pub entry_of : (i : ℤ) → pos 0 ≤ℤ i → i <ℤ pos 48 → Entry (entry inverse_table i) × Entry (entry inverse_table (i +ℤ pos 1))

@@ -10,4 +10,4 @@ unfolding row_of
 returns c =
     let f = c.polynomial-f in
     let g = c.polynomial-g in
-    c.row.ensures ∙ ap₂ row (sym (take_all 6 f.result (search rules)) ∙ f.ensures) (sym (take_all 6 g.result (search rules)) ∙ g.ensures)
+    rw (← c.every_second.ensures, ← c.every_second-2.ensures) (c.row.ensures ∙ ap₂ row (sym (take_all 6 f.result (search rules)) ∙ f.ensures) (sym (take_all 6 g.result (search rules)) ∙ g.ensures))

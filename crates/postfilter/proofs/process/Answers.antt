@@ -2,6 +2,7 @@
 use Prim.Native.Nat.{◌<◌}
 use borrow.Author.Rules.{rules}
 use mathlib.Core.Path.{◌≡◌, ap, ◌∙◌}
+use mathlib.Core.List.{[]}
 use lib.ListN.{length}
 use Rattle.postfilter.proofs.Frames.{row_listed, framing_none, framing_more, framing_done}
 use Rattle.postfilter.proofs.process.Goals as goal
@@ -15,7 +16,7 @@ loop-k-preserved c =
     let k = c.loop-k.k in
     let h : k < 4 = search rules in
     let m : length c.filter.result.samples ≡ 40 = search rules in
-    framing_more c.loop-k.invariant h (row_listed rows k _ h) c.stretch.ensures c.filter.ensures (ap length c.copy_from_slice.ensures.after ∙ m) c.copy_from_slice.ensures.after
+    framing_more c.loop-k.invariant h (row_listed rows k [] c.from.ensures h) c.stretch.ensures c.filter.ensures (ap length c.copy_from_slice.ensures.after ∙ m) c.copy_from_slice.ensures.after
 
 pub returns : goal.returns
 returns c = framing_done c.loop-k.invariant (search rules)

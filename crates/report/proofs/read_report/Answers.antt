@@ -1,6 +1,6 @@
 -- `report::read_report` meets its contract: the record's line where it is refused, and else that of the totals of the rounds after it.
 use Rattle.std.proofs.Common.{arith}
-use Rattle.report.proofs.Rounds.{taken_none, taken_more, taken_both}
+use Rattle.report.proofs.Taken.{taken_none, taken_more, taken_both}
 use Rattle.report.proofs.Whole.{whole_more, whole_alone}
 use Rattle.report.proofs.read_report.Goals as goal
 

@@ -10,7 +10,7 @@ use Rattle.energy.proofs.sum.energy.Goals as goal
 
 pub returns-then-at_limit : goal.returns-then-at_limit
 returns-then-at_limit c =
-    got w32 c.squares.type_inv (c.squares.ensures ∙ ap squares c.quarter.ensures)
+    got w32 c.squares.type_inv (c.squares.ensures ∙ ap squares c.quartered.ensures)
     ∙ energy_again c.args.samples (less_yes (rw (got w32 c.squares-sum.type_inv c.squares-sum.ensures) at c.if-at_limit.true))
 
 pub returns : goal.returns

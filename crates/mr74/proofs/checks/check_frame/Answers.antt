@@ -1,6 +1,6 @@
 -- `check_frame` meets its contract: group after group, the first that refuses decides.
 use Rattle.std.proofs.lemmas.Result.{err_from_is_err_and}
-use Rattle.mr74.proofs.Order.{lengths_refuse, sheet_refuses, state_decides}
+use Rattle.mr74.proofs.Order.{lengths_refuse, sheet_refuses}
 use Rattle.mr74.proofs.checks.check_frame.Goals as goal
 
 pub returns-in_err-numbers : goal.returns-in_err-numbers
@@ -15,16 +15,3 @@ returns-in_err-check_sheet c =
     let k = c.in_ok-numbers.ensures in
     let p = err_from_is_err_and c.from_residual-in_err-check_sheet.result c.from_residual-in_err-check_sheet.ensures.1 in
     rw (p.1, p.2) (sheet_refuses a.sheet.now a.state a.room k.0 k.1 c.in_err-check_sheet.ensures)
-
-pub returns-in_err-check_state : goal.returns-in_err-check_state
-returns-in_err-check_state c =
-    let a = c.args in
-    let k = c.in_ok-numbers.ensures in
-    let p = err_from_is_err_and c.from_residual-in_err-check_state.result c.from_residual-in_err-check_state.ensures.1 in
-    rw (p.1, p.2) (state_decides a.sheet.now a.state a.room k.0 k.1 c.in_ok-check_sheet.ensures c.in_err-check_state.ensures)
-
-pub returns : goal.returns
-returns c =
-    let a = c.args in
-    let k = c.in_ok-numbers.ensures in
-    (state_decides a.sheet.now a.state a.room k.0 k.1 c.in_ok-check_sheet.ensures c.in_ok-check_state.ensures, k.1)

@@ -4,7 +4,7 @@ use mathlib.Core.Path.{◌∙◌}
 use native.Mathlib.Omega.{arith}
 use Rattle.outcome.specs.declared.Refusal.TheVariants.{PitchIndex}
 use Rattle.outcome.proofs.Checks.{place_met, place_unmet, none_left}
-use Rattle.mr74.proofs.Groups.{stretch_length}
+use Rattle.lists.proofs.Entries.{stretch_length}
 use Rattle.mr74.proofs.checks.check_pitch.Goals as goal
 
 pub returns-in-Some : goal.returns-in-Some

@@ -1,32 +1,20 @@
--- `synthesis::accumulated` meets its contract: after k taps the sum is the clamped one of k taps.
+-- `synthesis::accumulated` meets its contract: the fold goes by the taps, and after k of them the sum is the clamped one of k taps.
 use borrow.Author.Rules.{rules}
-use mathlib.Core.Path.{◌∙◌}
-use native.Mathlib.Numerals.{add-one}
-use Rattle.std.proofs.lemmas.List.{length_push}
-use denote.Ref.{Bor}
+use mathlib.Core.Path.{◌≡◌, ap₂, ◌∙◌}
 use lib.IntN.{ℤ}
-use lib.ListN.{length}
 use mir.Syntax.{w16, w32}
+use mir.Val.{to_z, of_z}
+use Rattle.std.proofs.lemmas.Iterator.Consumers.{fold_from_yields_List}
 use Rattle.lists.specs.Lists.{at}
 use Rattle.lists.proofs.Signed.{back, got}
-use Rattle.synthesis.specs.Synthesis.{acc}
-use Rattle.synthesis.proofs.Pairs.{tap_turn, tap_end}
+use Rattle.basicop.specs.Ops.{l_mult, l_msu}
+use Rattle.synthesis.proofs.Pairs.{road, fold_acc}
 use Rattle.synthesis.proofs.clamped.accumulated.Goals as goal
-
-pub loop-c-init : goal.loop-c-init
-unfolding acc
-loop-c-init c = got w32 c.l_mult-s.type_inv (rw (back w16 {z = at c.args.a.now 0} c.l_mult-arg-1.given) at c.l_mult-s.ensures)
-
-pub loop-c-preserved : goal.loop-c-preserved
-unfolding acc
-loop-c-preserved c =
-    let l = c.loop-c in
-    let p : Bor ℤ × Bor ℤ = (c.in-Some.c, c.in-Some.v) in
-    let t = tap_turn c.args.a.now c.args.y.now (search rules) (search rules) c.into_iter-c-iterator.result (cc) (cc) l.yielded l.c-iterator c.next.new.self l.yielded_by p c.in-Some.is c.next.ensures.steps in
-    rw (length_push l.yielded p, add-one (length l.yielded)) (got w32 c.l_msu-s.type_inv (c.l_msu-s.ensures ∙ rw (back w16 c.l_msu-arg-1.given, back w16 c.l_msu-arg-in-loop-c-1.given, t.coefficient, t.sample, l.invariant)))
 
 pub returns : goal.returns
 returns c =
-    let l = c.loop-c in
-    let n = tap_end c.args.a.now c.args.y.now (search rules) (search rules) c.into_iter-c-iterator.result (cc) (cc) l.yielded l.c-iterator c.next.new.self l.yielded_by c.in-None.is c.next.ensures.steps in
-    rw (back w16 c.ranges.x.sfits, n) at l.invariant
+    let a = c.args.a.now in
+    let y = c.args.y.now in
+    let first : to_z w32 (of_z w32 c.l_mult-first.result) ≡ l_mult c.args.x (at a 0) = got w32 c.l_mult-first.type_inv (c.l_mult-first.ensures ∙ ap₂ l_mult (back w16 c.ranges.x.sfits) (back w16 {z = at a 0} c.l_mult-arg-1.given)) in
+    let steps = fold_from_yields_List _ (λ (s : ℤ) (p : ℤ × ℤ). l_msu s p.0 p.1) _ _ c.fold.ensures.ran (road a y (search rules) (search rules) c.zip.result (cc) (cc)) (λ s p b q c. search rules) in
+    got w32 c.fold.type_inv (steps ∙ rw first (fold_acc a y (search rules) (search rules) c.args.x))

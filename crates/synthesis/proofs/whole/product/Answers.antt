@@ -5,7 +5,8 @@ use lib.IntN.{nat_abs}
 use mir.Syntax.{w32}
 use mir.Val.{to_z, of_z}
 use mir.Facts.{to_z-of_z}
-use Rattle.basicop.proofs.Range.{mul_bound, nat_abs_in, sfits_mul}
+use lib.Signed.{nat_abs-le}
+use Rattle.basicop.proofs.Range.{mul_bound, sfits_mul}
 use Rattle.lists.proofs.Signed.{got}
 use Rattle.synthesis.proofs.whole.product.Goals as goal
 use Rattle.synthesis.proofs.whole.product.Goals.{After-from-2}
@@ -21,4 +22,4 @@ overflow_mul-result c = rw (wide_a c, wide_y c) (sfits_mul w32 c.args.a c.args.y
 
 pub returns : goal.returns
 returns c =
-    rw (to_z-of_z (overflow_mul-result c), wide_a c, wide_y c) (refl, mul_bound c.args.a c.args.y (le_refl (nat_abs c.args.a)) (nat_abs_in c.args.y c.ranges.y.sfits))
+    rw (to_z-of_z (overflow_mul-result c), wide_a c, wide_y c) (refl, mul_bound c.args.a c.args.y (le_refl (nat_abs c.args.a)) (nat_abs-le c.args.y c.ranges.y.sfits))

@@ -1,33 +1,41 @@
--- `CheckedSheet::inputs` meets its contract: LSFs, lags and subframes are the sheet's, and what its checks have shown makes them usable.
+-- `CheckedSheet::inputs` meets its contract: what the checks have shown of the indices gives lags in their range, and of the LSFs theirs.
 use mathlib.Core.Path.{◌≡◌, ap, sym, ◌∙◌, subst}
 use borrow.Author.Rules.{rules}
 use lib.ListN.{length}
-use mir.Syntax.{w16}
-use Rattle.lists.specs.Lists.{at}
-use Rattle.lists.proofs.Signed.{back}
+use Rattle.spectral.specs.Lsp.{Frequencies}
 use Rattle.outcome.specs.Outcome.{is_accepted}
-use Rattle.decoder.specs.Inputs.{inputs_of, Usable}
-use Rattle.mr74.specs.Sheet.{sheet_inputs}
 use Rattle.mr74.proofs.Passed.{indices, ready}
-use Rattle.mr74.proofs.Usable.{sheet_usable}
+use Rattle.mr74.proofs.Usable.{InRange, pair_in}
 use Rattle.mr74.proofs.sheet.CheckedSheet.inputs.Goals as goal
+use Rattle.mr74.proofs.sheet.CheckedSheet.inputs.Goals.{After-stretch}
 
-pub lags-early-requires : goal.lags-early-requires
-lags-early-requires c =
+-- the lags of the four subframes
+early : (c : After-stretch) → InRange c.from_absolute-a.result × InRange c.from_relative-b.result
+early c =
     let x = c.args.self.numbers.now in
     let r = indices x (ap is_accepted c.args.self.accepted) in
-    rw (back w16 {z = at x 10} c.lags-arg-1.given, back w16 {z = at x 11} c.lags-arg-2-1.given) (r.a, r.b)
+    pair_in c.from_absolute-a.result c.from_relative-b.result c.index.ensures c.index-2.ensures c.from_absolute-a.ensures c.from_relative-b.ensures r.a r.b
 
-pub lags-late-requires : goal.lags-late-requires
-lags-late-requires c =
+late : (c : After-stretch) → InRange c.from_absolute-c.result × InRange c.from_relative-d.result
+late c =
     let x = c.args.self.numbers.now in
     let r = indices x (ap is_accepted c.args.self.accepted) in
-    rw (back w16 {z = at x 12} c.lags-arg-3-1.given, back w16 {z = at x 13} c.lags-arg-4-1.given) (r.c, r.d)
+    pair_in c.from_absolute-c.result c.from_relative-d.result c.index-3.ensures c.index-4.ensures c.from_absolute-c.ensures c.from_relative-d.ensures r.c r.d
 
-pub returns-clause-usable : goal.returns-clause-usable
-returns-clause-usable c =
+pub parameters-requires-clause-lawful : goal.parameters-requires-clause-lawful
+parameters-requires-clause-lawful c = (early c).0
+
+pub parameters-requires-2-clause-lawful : goal.parameters-requires-2-clause-lawful
+parameters-requires-2-clause-lawful c = (early c.before).1
+
+pub parameters-requires-3-clause-lawful : goal.parameters-requires-3-clause-lawful
+parameters-requires-3-clause-lawful c = (late c.before.before).0
+
+pub parameters-requires-4-clause-lawful : goal.parameters-requires-4-clause-lawful
+parameters-requires-4-clause-lawful c = (late c.before.before.before).1
+
+pub invariant_of-result : goal.invariant_of-result
+invariant_of-result c =
     let x = c.args.self.numbers.now in
     let ten : length c.stretch.result ≡ 10 = search rules in
-    let value : inputs_of (record { lsfs = c.stretch.result; a = c.parameters.result; b = c.parameters-2.result; c = c.parameters-3.result; d = c.parameters-4.result }) ≡ sheet_inputs x = search rules in
-    let l = ap length (sym c.stretch.ensures) ∙ ten in
-    subst Usable (sym value) (sheet_usable l (ready x (ap is_accepted c.args.self.accepted) l))
+    record { frequencies = subst Frequencies (sym c.stretch.ensures) (ready x (ap is_accepted c.args.self.accepted) (ap length (sym c.stretch.ensures) ∙ ten)).lsfs }

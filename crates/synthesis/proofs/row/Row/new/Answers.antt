@@ -1,30 +1,29 @@
--- `Row::new` meets its contract: after k turns the sum is the weight of the first k coefficients.
-use Prim.Native.Nat.{ℕ}
+-- `Row::new` meets its contract: the sum is the weight, which is small.
 use borrow.Author.Rules.{rules}
-use mathlib.Core.Path.{◌≡◌, ap, ◌∙◌}
+use mathlib.Core.Path.{ap, ◌∙◌}
+use Prim.Native.Nat.{ℕ}
 use native.Mathlib.Omega.{arith}
 use lib.Dec.{ltb}
 use lib.IntN.{nat_abs}
 use mir.Syntax.{w16}
 use mir.Val.{SFits}
-use mir.Facts.{to_z-of_z}
+use Rattle.std.proofs.lemmas.Iterator.{YieldsList-from_slice, YieldsList-from_map}
+use Rattle.std.proofs.lemmas.Iterator.Consumers.{YieldsList-at, sum_by_from_yields_List, fits_by_from_yields_list}
 use Rattle.lists.specs.Lists.{at}
-use Rattle.synthesis.proofs.Taps.{weighed_none, weighed_more}
+use Rattle.lists.proofs.Signed.{entry_fits}
+use Rattle.synthesis.proofs.Taps.{weight_sum, weight_most}
 use Rattle.synthesis.proofs.row.Row.new.Goals as goal
 
-pub loop-a-init : goal.loop-a-init
-loop-a-init c = weighed_none
-
-pub loop-a-preserved : goal.loop-a-preserved
-loop-a-preserved c =
-    let u = c.unsigned_abs.ensures in
-    let f : SFits w16 (at c.args.coefficients c.loop-a.a-index) = search rules in
-    weighed_more c.loop-a.invariant (c.from-weight.ensures ∙ u.value ∙ ap nat_abs (to_z-of_z f)) (omega (arith, u.bound))
-
-pub overflow_add-weight : goal.overflow_add-weight
-overflow_add-weight c = record { fits = omega (arith, c.loop-a.invariant.most, c.unsigned_abs.ensures.bound) }
+pub sum-weight-requires-clause-fits : goal.sum-weight-requires-clause-fits
+sum-weight-requires-clause-fits c =
+    let a = c.args.coefficients in
+    let each : (k : ℕ) → SFits w16 (at a k) = λ k. search (rules, entry_fits) in
+    fits_by_from_yields_list nat_abs a c.map.result _
+    (YieldsList-from_map _ _ (YieldsList-at c.map.ensures.source (YieldsList-from_slice a cc)) c.map.ensures.closure (λ x r q k. search rules))
+    (omega (arith, weight_sum a (search rules), weight_most a each))
 
 pub invariant_of-result : goal.invariant_of-result
 invariant_of-result c =
-    let k : c.loop-a.a-index ≡ 11 = omega (arith, c.loop-a.auto.a-index-end) in
-    record { weighed = ap (λ (w : ℕ). ltb w 32768) (rw k at c.loop-a.invariant.is) }
+    let a = c.args.coefficients in
+    let sum = sum_by_from_yields_List nat_abs a c.map.result _ c.sum-weight.ensures.ran (YieldsList-from_map _ _ (YieldsList-at c.map.ensures.source (YieldsList-from_slice a cc)) c.map.ensures.closure (λ x r q k. search rules)) in
+    record { weighed = ap (λ (w : ℕ). ltb w 32768) (sum ∙ weight_sum a (search rules)) }

@@ -1,6 +1,0 @@
--- `scale` meets its contract: the calls are the definition's.
-use Rattle.basicop.proofs.Calls.{callsℤ}
-use Rattle.energy.proofs.gain.scale.Goals as goal
-
-pub returns : goal.returns
-returns c = search callsℤ depth 20

@@ -1,6 +1,0 @@
--- `excitation::fed_back` meets its contract: the calls are the definition's.
-use Rattle.basicop.proofs.Calls.{callsℤ}
-use Rattle.excitation.proofs.fed_back.Goals as goal
-
-pub returns : goal.returns
-returns c = search callsℤ depth 20

@@ -1,0 +1,10 @@
+-- That LSFs lie in their range has one proof at most, as a fact of a type needs. Assumes nothing.
+use mathlib.Core.HLevel.{×_prop, Unit-prop}
+use mathlib.Core.List.{List, [], ◌∷◌}
+use lib.IntN.{ℤ}
+use denote.Struct.Props.{props}
+use Rattle.spectral.specs.Lsp.{Frequencies}
+
+pub frequencies_prop : (lsfs : List ℤ) → IsProp (Frequencies lsfs)
+frequencies_prop [] = Unit-prop
+frequencies_prop (lsf ∷ lsfs) = ×_prop (Prim.hlevel props) (frequencies_prop lsfs)
