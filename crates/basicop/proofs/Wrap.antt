@@ -10,7 +10,8 @@ use lib.Dec.{ltb}
 use lib.Pow.{pow_pos}
 use lib.IntN.{ℤ, pos, negsuc, ◌-ℤ◌}
 use mir.Syntax.{Width, w8, w16, w32, w64, w128}
-use mir.Val.{SFits, bits, hbits}
+use mir.Val.{SFits, bits, hbits, to_z}
+use mir.Facts.{to_z_pos, to_z-neg}
 use Rattle.basicop.specs.Ops.{wrap, mod_z}
 use Rattle.basicop.proofs.Ints.{arith_ℤ, sub_ℤ_is}
 use Rattle.basicop.proofs.Shift.{mod_z_lt}
@@ -72,3 +73,20 @@ wrap_only w (negsuc n) z f e =
 
 pub wrap_id : (w : Width) (z : ℤ) → SFits w z → wrap w z ≡ z
 wrap_id w z f = wrap_only w z z f refl
+
+-- what std reads of the low bits
+pub wrap_read : (w : Width) (z : ℤ) → to_z w (mod_z z (2 ^ bits w)) ≡ wrap w z
+wrap_read w z = go (ltb (mod_z z (2 ^ bits w)) (2 ^ hbits w)) refl
+  where
+    m : ℕ
+    m = mod_z z (2 ^ bits w)
+
+    small : m < 2 ^ bits w
+    small = mod_z_lt z (2 ^ bits w) (pow_pos (bits w))
+
+    go : (t : Bool) → ltb m (2 ^ hbits w) ≡ t → to_z w m ≡ wrap w z
+    go true e = let h = ltb-true _ _ e in to_z_pos w h ∙ sym (wrap_low w z h)
+    go false e =
+        let h = ltb-false _ _ e in
+        let k = 2 ^ bits w - suc m in
+        ap (to_z w) {x = m} {y = 2 ^ bits w - suc k} (omega (arith, small)) ∙ to_z-neg w k (omega (arith, halves w, h, small)) ∙ sym (wrap_high w z h ∙ less m (2 ^ bits w) small)

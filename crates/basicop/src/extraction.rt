@@ -22,9 +22,7 @@ fn residue(x: i32) -> i32
 pub fn extract_l(x: i32) -> i16
     ensures { result ≡ extract_l x }
 {
-    let u = residue(x);
-    let low = u < 32768;
-    if low { u as i16 } else { (u - 65536) as i16 }
+    (residue(x) as u16).cast_signed()
 }
 
 pub fn round(x: i32) -> i16

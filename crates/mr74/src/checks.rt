@@ -1,6 +1,6 @@
 // What turns a frame call back: groups of checks, in the frame order 1, 5, 2, 6, 3, 4, 16, 17.
-ghost use Rattle.std.specs.Prelude.{◌≡◌, Ok, Err, MatchResult, length};
-ghost use Rattle.outcome.specs.Checks.{first_met};
+ghost use Rattle.std.specs.Prelude.{◌≡◌, length};
+ghost use Rattle.outcome.specs.Checks.{first_met, Checked};
 ghost use Rattle.mr74.specs.Checks.{length_checks, lsf_checks, pitch_checks, gain_checks, sheet_checks, frame_outcome};
 
 use super::{SAMPLES, SHEET};
@@ -14,7 +14,7 @@ const LSF_GAP: i32 = 205;
 // 1 and 5: the sheet's count of numbers, N, and the room for samples.
 #[tactic(auto, unfolding(outcome::specs::Checks::first_met))]
 fn check_lengths<const N: usize>(sheet: &[i16], room: usize) -> Result<&[i16; N], Refusal>
-    ensures { MatchResult result (λ numbers. (first_met (length_checks N (length sheet.now) room) ≡ Ok tt) × (numbers.now ≡ sheet.now)) (λ refusal. first_met (length_checks N (length sheet.now) room) ≡ Err refusal) }
+    ensures { Checked result (first_met (length_checks N (length sheet.now) room)) (λ numbers. numbers.now ≡ sheet.now) }
 {
     let Some(numbers) = sheet.as_array() else {
         return Err(Refusal::SheetLength);
@@ -75,7 +75,7 @@ fn check_sheet(sheet: &[i16; SHEET]) -> Outcome
 // In the frame order 1, 5, 2, 6, 3, 4, 16, 17.
 #[tactic(auto, using(crate::proofs::Order::state_decides))]
 pub fn check_frame(sheet: &[i16], state: State, room: usize) -> Result<CheckedSheet<'_>, Refusal>
-    ensures { MatchResult result (λ checked. (frame_outcome sheet.now state room ≡ Ok tt) × (checked.numbers.now ≡ sheet.now)) (λ refusal. frame_outcome sheet.now state room ≡ Err refusal) }
+    ensures { Checked result (frame_outcome sheet.now state room) (λ checked. checked.numbers.now ≡ sheet.now) }
 {
     let numbers = check_lengths(sheet, room)?;
     check_sheet(numbers)?;

@@ -1,16 +1,16 @@
 -- The search for the first number that is too close to the one before. Assumes nothing.
-use Prim.Native.Nat.{ℕ, zero, suc, ◌+◌, ◌<◌}
-use mathlib.Core.Path.{◌≡◌}
-use mathlib.Core.Bool.{true, false}
+use Prim.Native.Nat.{ℕ, zero, suc, min, ◌+◌, ◌<◌}
+use mathlib.Core.Path.{◌≡◌, refl}
+use mathlib.Core.Bool.{Bool, true, false, cond, not}
 use mathlib.Core.List.{List, [], ◌∷◌}
-use native.Mathlib.Numerals.{add-one}
 use native.Mathlib.Omega.{arith}
 use lib.IntN.{ℤ, pos, ◌+ℤ◌, ◌-ℤ◌}
-use lib.ListN.{length, drop}
-use lib.Seq.{drop-cons}
+use lib.ListN.{length}
 use lib.Signed.{◌≤ℤ◌, lt_z}
-use borrow.Author.Tests.{not-true, lt-ltb}
-use Rattle.std.specs.Prelude.{Some}
+use borrow.Author.Tests.{not-true}
+use Rattle.std.specs.Prelude.{position}
+use Rattle.std.specs.List.{zip, position_or_len}
+use Rattle.std.proofs.lemmas.Slice.Zip.{length-zip}
 use Rattle.lists.specs.Lists.{at}
 use borrow.Author.Differences.{sum_is_lem}
 use Rattle.basicop.proofs.Ints.{arith_ℤ, sub_ℤ_is}
@@ -18,23 +18,23 @@ use Rattle.basicop.proofs.Tests.{less_no}
 use Rattle.outcome.specs.Checks.{apart, found, first_close}
 use Rattle.outcome.proofs.Ranges.{one_more}
 
--- ---- the loop, with i numbers passed, `before` the last of them: what is found from here is what is found in all
-pub record Rising (gap : ℤ) (xs : List ℤ) (before : ℤ) (i : ℕ) : Type 0 where
-  pub rest : i + first_close gap before (drop i xs) ≡ first_close gap (pos 0) xs
+-- ---- the search over pairs of a number and the one after it
+abbrev pub close : ℤ → ℤ × ℤ → Bool
+close gap p = not (apart gap p.0 p.1)
 
-module _ {gap : ℤ} {xs : List ℤ} {before : ℤ} {i : ℕ} (s : Rising gap xs before i) where
-  pub rising_more : lt_z (at xs i -ℤ before) gap ≡ false → i < length xs → Rising gap xs (at xs i) (i + 1)
-  unfolding first_close
-  rising_more e h =
-      let r : i + suc (first_close gap (at xs i) (drop (suc i) xs)) ≡ first_close gap (pos 0) xs = rw (drop-cons xs i (pos 0) h, e) at s.rest in
-      record { rest = rw (add-one i) (omega (arith, r)) }
+close_is : (gap before : ℤ) (xs : List ℤ) → position_or_len (close gap) (zip (before ∷ xs) xs) ≡ first_close gap before xs
+unfolding first_close
+close_is gap before [] = refl
+close_is gap before (x ∷ xs) = go (apart gap before x) (close_is gap x xs)
+  where
+    go : (b : Bool) {m n : ℕ} → m ≡ n → cond (not (not b)) (1 + m) 0 ≡ cond b (suc n) 0
+    go true h = omega (arith, h)
+    go false h = refl
 
-  pub rising_found : lt_z (at xs i -ℤ before) gap ≡ true → i < length xs → Some i ≡ found (first_close gap (pos 0) xs) (length xs)
-  unfolding first_close
-  rising_found e h =
-      let r : i + 0 ≡ first_close gap (pos 0) xs = rw (drop-cons xs i (pos 0) h, e) at s.rest in
-      let k : first_close gap (pos 0) xs ≡ i = omega (arith, r) in
-      rw (k, lt-ltb i (length xs) h)
+pub close_found : (gap : ℤ) (xs : List ℤ) → position (close gap) (zip (pos 0 ∷ xs) xs) ≡ found (first_close gap (pos 0) xs) (length xs)
+close_found gap xs =
+    let l : min (length (pos 0 ∷ xs)) (length xs) ≡ length xs = omega arith in
+    rw (close_is gap (pos 0) xs, length-zip (pos 0 ∷ xs) xs, l)
 
 -- ---- up to what is found, every number lies at least `gap` above the one before it
 apart_by : (gap before x : ℤ) → apart gap before x ≡ true → (before +ℤ gap) ≤ℤ x

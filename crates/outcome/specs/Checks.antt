@@ -1,5 +1,5 @@
 -- Checks that are tested in order, and two searches: for the first number outside its range, and for the first that is too close to the one before.
-use Rattle.std.specs.Prelude.{Bool, cond, not, ◌||◌, List, [], ◌∷◌, Option, Some, None, Ok, Err, ℕ, suc, ltb, ℤ, pos, ◌-ℤ◌}
+use Rattle.std.specs.Prelude.{◌≡◌, Bool, cond, not, ◌||◌, List, [], ◌∷◌, Option, Some, None, Result, Ok, Err, MatchResult, ℕ, suc, ltb, ℤ, pos, ◌-ℤ◌}
 use Rattle.std.specs.Int.Signed.{lt_z}
 use Rattle.outcome.specs.declared.Refusal.{Refusal}
 use Rattle.outcome.specs.Outcome.{Outcome}
@@ -20,6 +20,10 @@ place_check refusal place count = check (ltb place count) (refusal place)
 unfoldable pub first_met : List Check → Outcome
 first_met [] = Ok tt
 first_met (c ∷ checks) = cond c.met (Err c.refusal) (first_met checks)
+
+-- what a function gives that hands on what its checks come to: where they accept, a value, of which P holds; else their refusal
+abbrev pub Checked : {X : Type 0} → Result X Refusal → Outcome → (X → Type 0) → Type 0
+Checked result outcome P = MatchResult result (λ x. (outcome ≡ Ok tt) × P x) (λ refusal. outcome ≡ Err refusal)
 
 -- ---- searches
 -- what a search found: the place of the first fault, where it is below the count

@@ -3,7 +3,9 @@
 
 ghost use Rattle.std.specs.Prelude.{◌≡◌, not, pos, length};
 ghost use Rattle.outcome.specs.Outcome.{refusal_number, refusal_place, number_of, place_of};
-ghost use Rattle.outcome.specs.Checks.{within, found, first_outside, first_close};
+ghost use Rattle.outcome.specs.Checks.{within, apart, found, first_outside, first_close};
+
+use std::iter::once;
 
 // Document 01's refusals and document 02's, by their numbers. A place goes with 2, 3, 4 and 6.
 #[derive(Clone, Copy, Debug, PartialEq, Eq)]
@@ -106,17 +108,19 @@ pub fn first_outside(numbers: &[i16], limits: &[i16]) -> Option<usize>
         .position(|(number, limit)| is_outside(*limit, *number))
 }
 
+// Whether a number lies less than `gap` above the one before it.
+fn is_close(gap: i32, before: i16, number: i16) -> bool
+    ensures { result ≡ not (apart gap before number) }
+{
+    i32::from(number) - i32::from(before) < gap
+}
+
 // The place of the first number less than `gap` above the one before it; before the first stands 0.
 pub fn first_close(gap: i32, numbers: &[i16]) -> Option<usize>
     ensures { result ≡ found (first_close gap (pos 0) numbers.now) (length numbers.now) }
 {
-    let mut before = 0;
-    for (place, &number) in numbers.iter().enumerate() {
-        let number = i32::from(number);
-        if number - before < gap {
-            return Some(place);
-        }
-        before = number;
-    }
-    None
+    once(0)
+        .chain(numbers.iter().copied())
+        .zip(numbers.iter().copied())
+        .position(|(before, number)| is_close(gap, before, number))
 }

@@ -1,6 +1,6 @@
 // What turns a read back, of the bytes: groups of checks, in the order 11 to 15.
-ghost use Rattle.std.specs.Prelude.{◌≡◌, Ok, Err, MatchResult};
-ghost use Rattle.outcome.specs.Checks.{first_met};
+ghost use Rattle.std.specs.Prelude.{◌≡◌};
+ghost use Rattle.outcome.specs.Checks.{first_met, Checked};
 ghost use Rattle.coding.specs.Bytes.{words};
 ghost use Rattle.record.specs.Record.{numbers_in, trailer_checks, byte_checks};
 
@@ -31,9 +31,7 @@ fn check_trailer(t: &[u8; TRAILER_BYTES]) -> Outcome
 
 // The body of a record, or 11 to 15: under 8 bytes, what the trailer shows, fewer bytes before it than a body has.
 pub fn body_of(bytes: &[u8]) -> Result<&[u8; BODY_BYTES], Refusal>
-    ensures { MatchResult result
-        (λ body. (first_met (byte_checks bytes.now) ≡ Ok tt) × (words body.now ≡ numbers_in bytes.now))
-        (λ refusal. first_met (byte_checks bytes.now) ≡ Err refusal) }
+    ensures { Checked result (first_met (byte_checks bytes.now)) (λ body. words body.now ≡ numbers_in bytes.now) }
 {
     let Some((before, trailer)) = bytes.split_last_chunk() else {
         return Err(Refusal::RecordShort);

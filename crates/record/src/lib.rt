@@ -1,7 +1,8 @@
 // The handover record: its reader and its writer.
 #![tactic(auto)]
 
-ghost use Rattle.std.specs.Prelude.{◌≡◌, Ok, Err, MatchResult};
+ghost use Rattle.std.specs.Prelude.{◌≡◌, Ok, Err};
+ghost use Rattle.outcome.specs.Checks.{Checked};
 ghost use Rattle.state.specs.Layout.{state_of};
 ghost use Rattle.record.specs.Record.{numbers_in, record_outcome, refused_answer, read_call, read_result, trailer_bytes, encoded, write_result, write_call};
 
@@ -55,7 +56,7 @@ fn refused(refusal: Refusal) -> Answer
 
 // The state of a record: 11 to 15 are tested of the bytes, 16 and 17 of the state in them.
 fn read_state(bytes: &[u8]) -> Result<State, Refusal>
-    ensures { MatchResult result (λ s. (record_outcome bytes.now ≡ Ok tt) × (s ≡ state_of (numbers_in bytes.now))) (λ refusal. record_outcome bytes.now ≡ Err refusal) }
+    ensures { Checked result (record_outcome bytes.now) (λ s. s ≡ state_of (numbers_in bytes.now)) }
 {
     let state = coding::state_in(body_of(bytes)?);
     state::check_state(state)?;

@@ -28,7 +28,7 @@ pub fn refused(record: &mut Reader) -> Option<bool> {
     let mut lent = [0x5555; 200];
     let answer = mr74::frame(
         sheet.get(..n)?,
-        coding::state_in(before.as_array()?),
+        coding::state_in(before),
         lent.get_mut(..room)?,
     );
     Some(
