@@ -14,7 +14,6 @@ fn joined(a: [i16; 40], b: [i16; 40], c: [i16; 40], d: [i16; 40]) -> [i16; 160]
 }
 
 // The core of a frame: four subframes, each from the state that the one before left.
-#[tactic(auto, using(crate::proofs::Subframes::core_is))]
 pub fn decode(core: Core, inputs: Inputs) -> CoreOutput
     ensures { result ≡ core_output (core_result core (inputs_of inputs)) }
 {

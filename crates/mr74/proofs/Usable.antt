@@ -31,15 +31,15 @@ pair_lawful : (n m : ℤ) → (pos 0 ≤ℤ n) × (n ≤ℤ pos 255) → (pos 0 
 pair_lawful n m h k = let a = absolute_range n h in (a, (relative_range m (absolute n) k a, tt))
 
 -- the code's lags of two subframes
-abbrev pub InRange : PitchLag → Type 0
-InRange l = (19 ≤ l.samples) × (l.samples ≤ 144)
+abbrev pub LagBounds : PitchLag → Type 0
+LagBounds l = (19 ≤ l.samples) × (l.samples ≤ 144)
 
-lag_in : (l : PitchLag) → Lawful (lag_of l) → InRange l
+lag_in : (l : PitchLag) → Lawful (lag_of l) → LagBounds l
 lag_in l w = (omega (arith_ℤ, w.is, w.from), omega (arith_ℤ, w.is, w.to))
 
 -- by their indices i and j, the second after the first
 pub pair_in : (k l : PitchLag) {i j : ℕ} {n m : ℤ} → pos i ≡ n → pos j ≡ m → lag_of k ≡ absolute (pos i) → lag_of l ≡ relative (pos j) (lag_of k).samples
-    → (pos 0 ≤ℤ n) × (n ≤ℤ pos 255) → (pos 0 ≤ℤ m) × (m ≤ℤ pos 31) → InRange k × InRange l
+    → (pos 0 ≤ℤ n) × (n ≤ℤ pos 255) → (pos 0 ≤ℤ m) × (m ≤ℤ pos 31) → LagBounds k × LagBounds l
 pair_in k l ei ej ek el h g =
     let a = subst Lawful (sym ek) (absolute_range _ (rw ei h)) in
     (lag_in k a, lag_in l (subst Lawful (sym el) (relative_range _ (lag_of k) (rw ej g) a)))

@@ -44,7 +44,6 @@ pub fn flags(places: [usize; 4]) -> [bool; 4]
 
 // ---- the call
 // The core of the frame, then the postfilter: the answer, and the samples.
-#[tactic(auto, using(crate::proofs::Answers::decoded_are))]
 fn decode(state: State, inputs: Inputs) -> (FrameAnswer, [i16; SAMPLES])
     ensures { call_result result.0 result.1 ≡ result_of (accepted_trace (Ok tt) (inputs_of inputs) state) }
 {

@@ -5,18 +5,18 @@ use lib.ListN.{length}
 use Rattle.spectral.specs.Lsp.{Frequencies}
 use Rattle.outcome.specs.Outcome.{is_accepted}
 use Rattle.mr74.proofs.Passed.{indices, ready}
-use Rattle.mr74.proofs.Usable.{InRange, pair_in}
+use Rattle.mr74.proofs.Usable.{LagBounds, pair_in}
 use Rattle.mr74.proofs.sheet.CheckedSheet.inputs.Goals as goal
 use Rattle.mr74.proofs.sheet.CheckedSheet.inputs.Goals.{After-stretch}
 
 -- the lags of the four subframes
-early : (c : After-stretch) → InRange c.from_absolute-a.result × InRange c.from_relative-b.result
+early : (c : After-stretch) → LagBounds c.from_absolute-a.result × LagBounds c.from_relative-b.result
 early c =
     let x = c.args.self.numbers.now in
     let r = indices x (ap is_accepted c.args.self.accepted) in
     pair_in c.from_absolute-a.result c.from_relative-b.result c.index.ensures c.index-2.ensures c.from_absolute-a.ensures c.from_relative-b.ensures r.a r.b
 
-late : (c : After-stretch) → InRange c.from_absolute-c.result × InRange c.from_relative-d.result
+late : (c : After-stretch) → LagBounds c.from_absolute-c.result × LagBounds c.from_relative-d.result
 late c =
     let x = c.args.self.numbers.now in
     let r = indices x (ap is_accepted c.args.self.accepted) in
