@@ -6,15 +6,16 @@
 use std::{env, fs, path::Path, process};
 
 /// The published tree, from the repository's root, and the folder of its files.
-const TREE: &str = "../shared/docs/src";
+const SOURCE: &str = "../shared/docs/src";
 const FOLDER: &str = "crates/bts136/src/codec";
 
-/// What is written: the reference, and the same with two files as published, so that innovation and
-/// gains come from their indices.
-const BUILT: [(&str, &[&str]); 2] = [
-    ("reference", &[]),
-    ("indexed", &["mr74/codebook.rs", "mr74/gain.rs"]),
-];
+/// What is written: a tree for each way of decoding, which differ in their patches alone.
+/// `reference` decodes frame sheets. `indexed` has innovation and gains from the source's indices.
+/// `lent` decodes index sheets: innovation from the sheet, gains from their indices, by lent tables.
+const ALL: &[&str] = &["reference", "indexed", "lent"];
+const FRAME_SHEETS: &[&str] = &["reference"];
+const INDEX_SHEETS: &[&str] = &["lent"];
+const SHEETS: &[&str] = &["reference", "lent"];
 
 /// The published files that are compiled.
 const FILES: [&str; 16] = [
@@ -73,6 +74,7 @@ const EMPTY: [&str; 24] = [
 ];
 
 struct Patch {
+    trees: &'static [&'static str],
     file: &'static str,
     /// Occurs exactly once in the published file.
     old: &'static str,
@@ -81,35 +83,70 @@ struct Patch {
 }
 
 const SEEN: &str = "visibility";
+const LENT: &str = "an entry of the lent table in place of the constant's";
 
-const PATCHES: [Patch; 21] = [
+const PATCHES: [Patch; 29] = [
     // The sheet in place of the tables.
     Patch {
+        trees: ALL,
         file: "mr74/lpc.rs",
         old: "self.spectral.decode(parameters)",
         new: "super::sheet::spectrum()",
         why: "the sheet's LSFs in place of the LSF quantiser's",
     },
     Patch {
+        trees: SHEETS,
         file: "mr74/codebook.rs",
         old: "samples_q13,",
         new: "samples_q13: super::sheet::innovation(pulse_positions),",
         why: "the sheet's innovation in place of the codebook's",
     },
     Patch {
+        trees: FRAME_SHEETS,
         file: "mr74/gain.rs",
         old: "let [pitch, correction, energy] =",
         new: "return Ok(super::sheet::gains(index)); let [pitch, correction, energy] =",
         why: "the sheet's gains in place of the gain table's",
     },
+    // The lent tables in place of the constants.
+    Patch {
+        trees: INDEX_SHEETS,
+        file: "mr74/logarithm.rs",
+        old: "(LOG2_TABLE[index] << WORD_SHIFT)",
+        new: "(super::tables::log(index) << WORD_SHIFT)",
+        why: LENT,
+    },
+    Patch {
+        trees: INDEX_SHEETS,
+        file: "mr74/logarithm.rs",
+        old: "(LOG2_TABLE[index] - LOG2_TABLE[index + 1])",
+        new: "(super::tables::log(index) - super::tables::log(index + 1))",
+        why: LENT,
+    },
+    Patch {
+        trees: INDEX_SHEETS,
+        file: "mr74/logarithm.rs",
+        old: "(POW2_TABLE[index] << WORD_SHIFT)",
+        new: "(super::tables::pow(index) << WORD_SHIFT)",
+        why: LENT,
+    },
+    Patch {
+        trees: INDEX_SHEETS,
+        file: "mr74/logarithm.rs",
+        old: "(POW2_TABLE[index] - POW2_TABLE[index + 1])",
+        new: "(super::tables::pow(index) - super::tables::pow(index + 1))",
+        why: LENT,
+    },
     // The places of the synthesis: two calls that are handed copies, and give nothing back.
     Patch {
+        trees: ALL,
         file: "mr74/synthesis.rs",
         old: ">> WORD_SHIFT) as i16;",
         new: ">> WORD_SHIFT) as i16; super::places::note(sample, overflowed);",
         why: "after each sample of a pass, whether a step has clamped so far",
     },
     Patch {
+        trees: ALL,
         file: "mr74/decoder.rs",
         old: ".overflowed;",
         new: ".overflowed; super::places::keep(index);",
@@ -117,97 +154,142 @@ const PATCHES: [Patch; 21] = [
     },
     // The state, set and read from outside.
     Patch {
+        trees: ALL,
         file: "mr74/decoder.rs",
         old: "lpc: LpcDecoder,",
         new: "pub(super) lpc: LpcDecoder,",
         why: SEEN,
     },
     Patch {
+        trees: ALL,
         file: "mr74/decoder.rs",
         old: "excitation: ExcitationDecoder,",
         new: "pub(super) excitation: ExcitationDecoder,",
         why: SEEN,
     },
     Patch {
+        trees: ALL,
         file: "mr74/lpc.rs",
         old: "previous_lsp_q15: [i16;",
         new: "pub(super) previous_lsp_q15: [i16;",
         why: SEEN,
     },
     Patch {
+        trees: ALL,
         file: "mr74/excitation.rs",
         old: "history_q0: [i16;",
         new: "pub(super) history_q0: [i16;",
         why: SEEN,
     },
     Patch {
+        trees: ALL,
         file: "mr74/excitation.rs",
         old: "sharpening_q14: i16,",
         new: "pub(super) sharpening_q14: i16,",
         why: SEEN,
     },
     Patch {
+        trees: ALL,
         file: "mr74/synthesis.rs",
         old: "history_q0: [i16; LPC_ORDER],",
         new: "pub(super) history_q0: [i16; LPC_ORDER],",
         why: SEEN,
     },
     Patch {
+        trees: ALL,
         file: "mr74/postfilter.rs",
         old: "input_history: [i16;",
         new: "pub(super) input_history: [i16;",
         why: SEEN,
     },
     Patch {
+        trees: ALL,
         file: "mr74/postfilter.rs",
         old: "previous_residual: i16,",
         new: "pub(super) previous_residual: i16,",
         why: SEEN,
     },
     Patch {
+        trees: ALL,
         file: "mr74/postfilter.rs",
         old: "synthesis: SynthesisFilter,",
         new: "pub(super) synthesis: SynthesisFilter,",
         why: SEEN,
     },
     Patch {
+        trees: ALL,
         file: "mr74/postfilter.rs",
         old: "gain: GainControl,",
         new: "pub(super) gain: GainControl,",
         why: SEEN,
     },
     Patch {
+        trees: ALL,
         file: "mr74/energy.rs",
         old: "previous_gain: i16,",
         new: "pub(super) previous_gain: i16,",
         why: SEEN,
     },
+    // The past energies, and the constant tables, which a caller may lend.
+    Patch {
+        trees: INDEX_SHEETS,
+        file: "mr74/excitation.rs",
+        old: "gains: gain::GainDecoder,",
+        new: "pub(super) gains: gain::GainDecoder,",
+        why: SEEN,
+    },
+    Patch {
+        trees: INDEX_SHEETS,
+        file: "mr74/gain.rs",
+        old: "energies_q10: [i16;",
+        new: "pub(super) energies_q10: [i16;",
+        why: SEEN,
+    },
+    Patch {
+        trees: INDEX_SHEETS,
+        file: "mr74/logarithm.rs",
+        old: "const LOG2_TABLE: [i32;",
+        new: "pub(super) const LOG2_TABLE: [i32;",
+        why: SEEN,
+    },
+    Patch {
+        trees: INDEX_SHEETS,
+        file: "mr74/logarithm.rs",
+        old: "const POW2_TABLE: [i32;",
+        new: "pub(super) const POW2_TABLE: [i32;",
+        why: SEEN,
+    },
     // Stages that are private to their file.
     Patch {
+        trees: ALL,
         file: "mr74/lpc.rs",
         old: "fn interpolate(",
         new: "pub(super) fn interpolate(",
         why: SEEN,
     },
     Patch {
+        trees: ALL,
         file: "mr74/lpc.rs",
         old: "fn rounded_coefficient(",
         new: "pub(super) fn rounded_coefficient(",
         why: SEEN,
     },
     Patch {
+        trees: ALL,
         file: "mr74/energy.rs",
         old: "fn energy(",
         new: "pub(super) fn energy(",
         why: SEEN,
     },
     Patch {
+        trees: ALL,
         file: "mr74/pitch.rs",
         old: "samples: u16,",
         new: "pub(super) samples: u16,",
         why: SEEN,
     },
     Patch {
+        trees: ALL,
         file: "mr74/pitch.rs",
         old: "fraction: Fraction,",
         new: "pub(super) fraction: Fraction,",
@@ -235,9 +317,10 @@ fn write(path: &Path, text: &str) {
     }
 }
 
-fn patched(file: &str, published: String) -> String {
+fn patched(tree: &str, file: &str, published: String) -> String {
     let mut text = published.clone();
-    for patch in PATCHES.iter().filter(|patch| patch.file == file) {
+    let concerned = |patch: &&Patch| patch.file == file && patch.trees.contains(&tree);
+    for patch in PATCHES.iter().filter(concerned) {
         for found in [&published, &text] {
             let count = found.matches(patch.old).count();
             if count != 1 {
@@ -255,10 +338,10 @@ fn patched(file: &str, published: String) -> String {
 fn main() {
     let here = env::var("CARGO_MANIFEST_DIR").expect("cargo names the package's folder");
     let out = env::var("OUT_DIR").expect("cargo names the output folder");
-    let tree = env::var("REFERENCE_SRC").unwrap_or_default();
-    let tree = if tree.is_empty() { TREE } else { &tree };
+    let source = env::var("REFERENCE_SRC").unwrap_or_default();
+    let source = if source.is_empty() { SOURCE } else { &source };
     let here = Path::new(&here);
-    let published = here.join("../..").join(tree).join(FOLDER);
+    let published = here.join("../..").join(source).join(FOLDER);
     println!("cargo::rerun-if-changed=build.rs");
     println!("cargo::rerun-if-env-changed=REFERENCE_SRC");
     for patch in &PATCHES {
@@ -266,13 +349,10 @@ fn main() {
             fail(format!("a patch names {}, which is not read", patch.file));
         }
     }
-    for (name, plain) in BUILT {
-        let out = Path::new(&out).join(name);
+    for tree in ALL {
+        let out = Path::new(&out).join(tree);
         for file in FILES {
-            let mut text = read(&published.join(file));
-            if !plain.contains(&file) {
-                text = patched(file, text);
-            }
+            let text = patched(tree, file, read(&published.join(file)));
             // An included file's modules are looked for beside it.
             let place = if file == "mr74.rs" {
                 "mr74/mod.rs"

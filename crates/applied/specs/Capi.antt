@@ -1,9 +1,10 @@
 -- `RefusedUnchanged` (capi/specs/Capi.antt) applied to two frame calls over bytes, one turned back by its sheet and one by its state; and the places
--- of the first, computed.
+-- of the first, computed. `IndexedUnchanged` and `GainUnchanged` (capi/specs/Indexed.antt) applied to a call that is lent no table, and to one of the index 128.
 -- The theorem is `unchanged_applied` in proofs/Capi.antt.
 use Rattle.std.specs.Prelude.{◌≡◌, List, [], ◌∷◌, ◌++◌, ℕ, pos, replicate}
 use Rattle.coding.specs.Bytes.{bytes_of}
 use Rattle.capi.specs.Capi.{FrameReturn, frame_bytes}
+use Rattle.capi.specs.Indexed.{IndexedReturn, indexed_bytes, GainReturn, gain_bytes}
 use Rattle.applied.specs.Refusals.{lowest}
 
 -- of a sheet and a state's bytes: the output is 320 bytes of 9, rows and places are zeros
@@ -21,6 +22,15 @@ lowest_sheet = bytes_of (lowest ++ replicate 172 (pos 0))
 abbrev pub unmet : FrameReturn
 unmet = returned lowest_sheet (replicate 394 255)
 
+-- an index sheet of zeros but for its LSFs, and tables without a number: 7
+abbrev pub untabled : IndexedReturn
+untabled =
+    indexed_bytes (bytes_of (lowest ++ replicate 168 (pos 0))) (replicate 394 0) (replicate 320 9) (replicate 88 0) (replicate 4 0) [] [] (replicate 8 7)
+
+-- the index 128, and tables of zeros: 8
+abbrev pub unlisted : GainReturn
+unlisted = gain_bytes (pos 128) (replicate 80 0) (replicate 66 0) (replicate 66 0) (replicate 8 7) (replicate 4 9)
+
 pub record UnchangedApplied : Type 0 where
   pub unsent_code : unsent.code ≡ 1
   pub unsent_state : unsent.state ≡ replicate 394 1
@@ -30,3 +40,11 @@ pub record UnchangedApplied : Type 0 where
   pub unmet_code : unmet.code ≡ 16
   pub unmet_state : unmet.state ≡ replicate 394 255
   pub unmet_out : unmet.out ≡ replicate 320 9
+  pub untabled_code : untabled.frame.code ≡ 7
+  pub untabled_state : untabled.frame.state ≡ replicate 394 0
+  pub untabled_out : untabled.frame.out ≡ replicate 320 9
+  pub untabled_energies : untabled.energies ≡ replicate 8 7
+  pub unlisted_code : unlisted.code ≡ 8
+  pub unlisted_energies : unlisted.energies ≡ replicate 8 7
+  -- gains 0 and 0
+  pub unlisted_gains : unlisted.gains ≡ replicate 4 0

@@ -3,6 +3,8 @@
 pub mod Starred
 pub mod Examples
 pub mod Refusals
+pub mod Gains
+pub mod Indexed
 pub mod Demand3
 pub mod Divisions
 pub mod Calls

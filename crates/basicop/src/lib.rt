@@ -37,7 +37,11 @@ pub struct Q1(pub i16);
 #[derive(Clone, Copy)]
 pub struct Q13(pub [i16; 40]);
 
-// Gain between two energies.
+// The energy of an innovation, as the gains are predicted from it.
+#[derive(Clone, Copy)]
+pub struct Q10(pub i16);
+
+// Gain between two energies, and the correction of a predicted gain.
 #[derive(Clone, Copy)]
 pub struct Q12(pub i16);
 

@@ -15,11 +15,13 @@ use Rattle.outcome.specs.Outcome.{Outcome, is_accepted}
 use Rattle.state.specs.State.{WellFormed, state_outcome}
 use Rattle.state.proofs.Checks.{InRange, in_range_accepted}
 use Rattle.mr74.specs.Sheet.{sheet_inputs}
-use Rattle.mr74.specs.Checks.{frame_outcome}
+use Rattle.mr74.specs.Checks.{frame_outcome, indexed_outcome}
 use Rattle.mr74.specs.Frame.{Trace, core_result_of, accepted_trace, refused_trace, trace_by, frame_trace}
+use Rattle.mr74.specs.Indexed.{indexed_inputs, opened_memory, indexed_trace}
 use Rattle.mr74.proofs.Passed.{passed}
-use Rattle.mr74.proofs.Usable.{usable}
-use Rattle.calls.specs.Calls.{Call, FrameCall, trace_of, next_state, accepted}
+use Rattle.mr74.proofs.IndexPassed.{index_passed}
+use Rattle.mr74.proofs.Usable.{usable, index_usable}
+use Rattle.calls.specs.Calls.{Call, FrameCall, IndexCall, trace_of, next_state, accepted}
 use Rattle.calls.proofs.Frames.{NextFacts, FrameFacts, frame_facts}
 
 -- by cases
@@ -48,12 +50,19 @@ pub record Accepts (s : State) (c : Call) : Type 0 where
   pub trace : trace_of s c ≡ accepted_trace outcome inputs s
 
 pub accepts : (s : State) (c : Call) → accepted (trace_of s c) ≡ true → Accepts s c
-unfolding frame_trace
+unfolding frame_trace indexed_trace
 accepts s (FrameCall sheet out) e =
     let o = frame_outcome sheet s (length out) in
     let a = sym (accepted_is o (sheet_inputs sheet) s out) ∙ e in
     let p = passed sheet s (length out) a in
     record { outcome = o; inputs = sheet_inputs sheet; usable = usable p; state = p.state; trace = by_accepted o (sheet_inputs sheet) s out a }
+accepts s (IndexCall logs pows energies sheet out) e =
+    let o = indexed_outcome logs pows sheet s (length out) in
+    let m = opened_memory energies s in
+    let inputs = (indexed_inputs logs pows sheet m).inputs in
+    let a = sym (accepted_is o inputs s out) ∙ e in
+    let p = index_passed logs pows sheet s (length out) a in
+    record { outcome = o; inputs = inputs; usable = index_usable m p; state = p.state; trace = by_accepted o inputs s out a }
 
 -- a refused one gives the state back, and has no subframe
 pub record Refuses (s : State) (c : Call) : Type 0 where
@@ -62,10 +71,14 @@ pub record Refuses (s : State) (c : Call) : Type 0 where
   pub trace : trace_of s c ≡ refused_trace outcome s out
 
 pub refuses : (s : State) (c : Call) → accepted (trace_of s c) ≡ false → Refuses s c
-unfolding frame_trace
+unfolding frame_trace indexed_trace
 refuses s (FrameCall sheet out) e =
     let o = frame_outcome sheet s (length out) in
     record { outcome = o; out = out; trace = by_refused o (sheet_inputs sheet) s out (sym (accepted_is o (sheet_inputs sheet) s out) ∙ e) }
+refuses s (IndexCall logs pows energies sheet out) e =
+    let o = indexed_outcome logs pows sheet s (length out) in
+    let inputs = (indexed_inputs logs pows sheet (opened_memory energies s)).inputs in
+    record { outcome = o; out = out; trace = by_refused o inputs s out (sym (accepted_is o inputs s out) ∙ e) }
 
 pub next_refused : (s : State) (c : Call) → accepted (trace_of s c) ≡ false → next_state s c ≡ s
 next_refused s c e = ap (λ (t : Trace). t.next) (refuses s c e).trace

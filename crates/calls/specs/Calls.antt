@@ -3,13 +3,16 @@ use Rattle.std.specs.Prelude.{Bool, false, cond, ◌||◌, List, [], ◌∷◌, 
 use Rattle.state.specs.declared.State.{State}
 use Rattle.outcome.specs.Outcome.{is_accepted}
 use Rattle.mr74.specs.Frame.{Trace, frame_trace}
+use Rattle.mr74.specs.Indexed.{indexed_trace}
 
--- a call brings its own sheet and output
+-- a call brings its own sheet and output; an index call (document 02, 5/13) brings its own tables and past energies too, of any length and content
 pub data Call : Type 0 where
   FrameCall : (sheet out : List ℤ) → Call
+  IndexCall : (logs pows energies sheet out : List ℤ) → Call
 
 abbrev pub trace_of : State → Call → Trace
 trace_of s (FrameCall sheet out) = frame_trace sheet s out
+trace_of s (IndexCall logs pows energies sheet out) = indexed_trace logs pows energies sheet s out
 
 abbrev pub next_state : State → Call → State
 next_state s c = (trace_of s c).next

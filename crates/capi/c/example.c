@@ -1,4 +1,5 @@
-/* Reads a record, decodes a frame, has others refused, and writes the record of the state that it leaves.
+/* Reads a record, decodes a frame, has others refused, and writes the record of the state that it leaves. Then decodes a frame of
+ * an index sheet, and the gains of one index, with the standard's tables, and has others of both refused.
  * Its last line is 'N passed, M failed'. */
 #include "mr74.h"
 
@@ -29,7 +30,23 @@ static int all_zero(const uint8_t *bytes, size_t count)
     return all_are(0, bytes, count);
 }
 
-int main(void)
+static void put_numbers(uint8_t *bytes, const int16_t *numbers, int count)
+{
+    for (int i = 0; i < count; i++) {
+        bytes[2 * i] = (uint8_t)numbers[i];
+        bytes[2 * i + 1] = (uint8_t)((unsigned)numbers[i] >> 8);
+    }
+}
+
+static int are_numbers(const uint8_t *bytes, const int16_t *numbers, int count)
+{
+    for (int i = 0; i < count; i++)
+        if ((int16_t)(bytes[2 * i] | bytes[2 * i + 1] << 8) != numbers[i])
+            return 0;
+    return 1;
+}
+
+static void frames_and_record(void)
 {
     static const uint8_t trailer[8] = {0x4D, 0x37, 1, 0, 0x8A, 1, 0xC5, 0};
     uint8_t record[3 + MR74_RECORD_BYTES] = {'a', 'b', 'c'};
@@ -76,7 +93,104 @@ int main(void)
 
     code = mr74_write(state, sizeof state, again, sizeof again);
     expect("the state is written", code == 0 && memcmp(again, state, sizeof state) == 0 && memcmp(again + sizeof state, trailer, sizeof trailer) == 0);
+}
 
+/* The tables of Log2 and Pow2 in TS 26.073, and the energies of a decoder that has decoded nothing. */
+static const int16_t log_numbers[33] = {
+    0, 1455, 2866, 4236, 5568, 6863, 8124, 9352, 10549, 11716, 12855, 13967, 15054, 16117, 17156, 18172, 19167, 20142,
+    21097, 22033, 22951, 23852, 24735, 25603, 26455, 27291, 28113, 28922, 29716, 30497, 31266, 32023, 32767
+};
+static const int16_t pow_numbers[33] = {
+    16384, 16743, 17109, 17484, 17867, 18258, 18658, 19066, 19484, 19911, 20347, 20792, 21247, 21713, 22188, 22674, 23170,
+    23678, 24196, 24726, 25268, 25821, 26386, 26964, 27554, 28158, 28774, 29405, 30048, 30706, 31379, 32066, 32767
+};
+static const int16_t opening_energies[4] = {-14336, -14336, -14336, -14336};
+
+static uint8_t log_table[MR74_TABLE_BYTES], pow_table[MR74_TABLE_BYTES], energies[MR74_ENERGIES_BYTES];
+
+static void lend_tables(void)
+{
+    put_numbers(log_table, log_numbers, 33);
+    put_numbers(pow_table, pow_numbers, 33);
+    put_numbers(energies, opening_energies, 4);
+}
+
+/* What an index frame is decoded with. */
+static uint8_t index_sheet[MR74_INDEX_SHEET_BYTES], state[MR74_STATE_BYTES];
+static uint8_t out[MR74_OUT_BYTES], rows[MR74_ROWS_BYTES], places[MR74_PLACES_BYTES];
+
+static uint32_t index_frame(size_t sheet_bytes, size_t energies_bytes)
+{
+    return mr74_frame_indexed(index_sheet, sheet_bytes, state, sizeof state, out, sizeof out, rows, sizeof rows, places, sizeof places,
+                              log_table, sizeof log_table, pow_table, sizeof pow_table, energies, energies_bytes);
+}
+
+static int refused_at(uint32_t code, uint32_t number, uint32_t place)
+{
+    return MR74_NUMBER(code) == number && MR74_PLACE(code) == place;
+}
+
+static void index_frames(void)
+{
+    static const int16_t lsfs_and_indices[18] = {
+        1400, 2800, 4200, 5600, 7000, 8400, 9800, 11200, 12600, 14000, 4, 6, 18, 22, 121, 63, 92, 78,
+    };
+    static const int16_t pulse[1] = {2000}, samples[3] = {8, 6, -100}, after[4] = {9221, 7413, 12853, 5816};
+    uint8_t kept_state[MR74_STATE_BYTES], kept_out[MR74_OUT_BYTES];
+    uint32_t code;
+
+    put_numbers(index_sheet, lsfs_and_indices, 18);
+    for (int k = 1; k < 4; k++) /* subframe 0 has no innovation, the others a pulse */
+        put_numbers(index_sheet + 2 * (18 + 40 * k), pulse, 1);
+    lend_tables();
+    code = index_frame(sizeof index_sheet, sizeof energies);
+    expect("an index sheet is accepted: a silent subframe, then samples", code == 0 && all_zero(out, 80) && are_numbers(out + 80, samples, 3));
+    expect("its four subframes' energies are left, newest first", are_numbers(energies, after, 4));
+
+    memcpy(kept_state, state, sizeof state);
+    memcpy(kept_out, out, sizeof out);
+    pow_table[65] = 0; /* the last number of Pow2's table: 255 */
+    expect("a table of Pow2 that falls is refused by number 7 at place 1", refused_at(index_frame(sizeof index_sheet, sizeof energies), 7, 1));
+    put_numbers(pow_table, pow_numbers, 33);
+    index_sheet[2 * 16] = 128; /* the gain index of subframe 2 */
+    expect("a gain index of 128 is refused by number 8 at its subframe", refused_at(index_frame(sizeof index_sheet, sizeof energies), 8, 2));
+    expect("a refused call leaves output, state and energies", memcmp(out, kept_out, sizeof out) == 0 && memcmp(state, kept_state, sizeof state) == 0 && are_numbers(energies, after, 4));
+    expect("and gives rows of zeros, and the place 40 four times", all_zero(rows, sizeof rows) && all_are(40, places, sizeof places));
+    expect("an index sheet of 355 bytes is refused by number 1", index_frame(sizeof index_sheet - 1, sizeof energies) == 1);
+    expect("energies of 7 bytes do not fit", index_frame(sizeof index_sheet, sizeof energies - 1) == MR74_UNFIT);
+}
+
+static uint8_t innovation[MR74_INNOVATION_BYTES], gains[MR74_GAINS_BYTES];
+
+static uint32_t decode(int16_t index, size_t innovation_bytes, size_t log_table_bytes)
+{
+    return mr74_gain_decode(index, innovation, innovation_bytes, log_table, log_table_bytes, pow_table, sizeof pow_table, energies,
+                            sizeof energies, gains, sizeof gains);
+}
+
+static void one_index(void)
+{
+    static const int16_t pulse[1] = {6}, decoded[2] = {10177, 28790}, after[4] = {-454, -14336, -14336, -14336};
+    uint32_t code;
+
+    put_numbers(innovation, pulse, 1);
+    lend_tables();
+    code = decode(40, sizeof innovation, sizeof log_table);
+    expect("index 40 is decoded: pitch gain 10177, code gain 28790, its energy first", code == 0 && are_numbers(gains, decoded, 2) && are_numbers(energies, after, 4));
+    code = decode(128, sizeof innovation, sizeof log_table);
+    expect("index 128 is refused by number 8 at place 0: no gains, and the energies stay", code == 8 && all_zero(gains, sizeof gains) && are_numbers(energies, after, 4));
+    code = decode(-1, sizeof innovation, sizeof log_table - 1);
+    expect("a table of Log2 of 65 bytes is refused by number 7 at place 0, before index -1", code == 7);
+    gains[0] = 0x5A;
+    code = decode(40, sizeof innovation - 1, sizeof log_table);
+    expect("an innovation of 79 bytes does not fit, and nothing is changed", code == MR74_UNFIT && gains[0] == 0x5A && are_numbers(energies, after, 4));
+}
+
+int main(void)
+{
+    frames_and_record();
+    index_frames();
+    one_index();
     printf("%d passed, %d failed\n", passed, failed);
     return failed != 0;
 }

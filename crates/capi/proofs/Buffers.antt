@@ -16,19 +16,14 @@ use Rattle.decoder.proofs.Results.{Held}
 use Rattle.state.specs.declared.State.{State}
 use Rattle.outcome.specs.Outcome.{is_accepted}
 use Rattle.coding.specs.Bytes.{bytes_of, Bytes}
-use Rattle.mr74.specs.Frame.{frame_call}
+use Rattle.mr74.specs.Frame.{CallResult, frame_call}
+use Rattle.mr74.specs.Indexed.{indexed_call}
 use Rattle.mr74.proofs.Passed.{passed}
-use Rattle.mr74.proofs.Places.{frame_places}
+use Rattle.mr74.proofs.IndexPassed.{index_passed}
+use Rattle.mr74.proofs.Places.{frame_places, indexed_places}
 use Rattle.capi.specs.Capi.{sample_count, out_length, room_of, room_in, out_after}
-use Rattle.capi.proofs.Codes.{frame_outcome_lem}
-
--- ---- the output
-room_all : (bytes : ℕ) → ◌≡◌ {A = ℕ} (room_of bytes) sample_count → bytes ≡ out_length
-room_all bytes = go (eqb bytes out_length) refl
-  where
-    go : (b : Bool) → eqb bytes out_length ≡ b → ◌≡◌ {A = ℕ} (cond b sample_count 0) sample_count → bytes ≡ out_length
-    go true e h = eqb-true bytes out_length e
-    go false e h = absurd (omega (arith, h))
+use Rattle.capi.specs.Indexed.{frame_result}
+use Rattle.capi.proofs.Codes.{frame_outcome_lem, indexed_outcome_lem}
 
 -- ---- the places
 -- the places of an answer are bytes
@@ -54,17 +49,32 @@ called_at_bytes {R = R} {Q} {f} bytes b keeps may =
 pub frame_bytes_lem : (sheet : List ℤ) (s : State) (out : List ℤ) → Held s.core → Bytes (frame_call sheet s out).answer.places
 frame_bytes_lem sheet s out h = places_bytes (frame_call sheet s out).answer.places (frame_places sheet s out h)
 
--- ---- a frame's output
-module _ (sheet : List ℤ) (s : State) (out : List ℕ) where
-  -- an accepted call was lent all the bytes
-  accepted_room : is_accepted (frame_call sheet s (room_in out)).answer.outcome ≡ true → length out ≡ out_length
-  accepted_room h =
-      let v = rw (frame_outcome_lem sheet s (room_in out)) at h in
-      room_all (length out) (sym (length-replicate (room_of (length out)) (pos 0)) ∙ (passed sheet s (length (room_in out)) v).lent)
+pub indexed_bytes_lem : (logs pows energies sheet : List ℤ) (s : State) (out : List ℤ) → Held s.core → Bytes (indexed_call logs pows energies sheet s out).answer.frame.places
+indexed_bytes_lem logs pows energies sheet s out h = places_bytes (indexed_call logs pows energies sheet s out).answer.frame.places (indexed_places logs pows energies sheet s out h)
 
-  pub no_room : (length out ≡ out_length → ⊥) → out ≡ out_after (frame_call sheet s (room_in out)) out
-  no_room n = go (is_accepted (frame_call sheet s (room_in out)).answer.outcome) refl
-    where
-      go : (b : Bool) → is_accepted (frame_call sheet s (room_in out)).answer.outcome ≡ b → out ≡ cond b (bytes_of (frame_call sheet s (room_in out)).lent) out
-      go true e = absurd (n (accepted_room e))
-      go false e = refl
+-- ---- the output: an accepted call was lent all its bytes
+room_all : (bytes : ℕ) → ◌≡◌ {A = ℕ} (room_of bytes) sample_count → bytes ≡ out_length
+room_all bytes = go (eqb bytes out_length) refl
+  where
+    go : (b : Bool) → eqb bytes out_length ≡ b → ◌≡◌ {A = ℕ} (cond b sample_count 0) sample_count → bytes ≡ out_length
+    go true e h = eqb-true bytes out_length e
+    go false e h = absurd (omega (arith, h))
+
+-- so what is left of another output is that output
+no_room : (c : CallResult) (out : List ℕ) → (is_accepted c.answer.outcome ≡ true → length (room_in out) ≡ sample_count) → (length out ≡ out_length → ⊥) → out ≡ out_after c out
+no_room c out lent n = go (is_accepted c.answer.outcome) refl
+  where
+    go : (b : Bool) → is_accepted c.answer.outcome ≡ b → out ≡ cond b (bytes_of c.lent) out
+    go true e = absurd (n (room_all (length out) (sym (length-replicate (room_of (length out)) (pos 0)) ∙ lent e)))
+    go false e = refl
+
+pub no_frame_room : (sheet : List ℤ) (s : State) (out : List ℕ) → (length out ≡ out_length → ⊥) → out ≡ out_after (frame_call sheet s (room_in out)) out
+no_frame_room sheet s out =
+    no_room (frame_call sheet s (room_in out)) out
+    (λ e. (passed sheet s (length (room_in out)) (rw (frame_outcome_lem sheet s (room_in out)) at e)).lent)
+
+pub no_indexed_room : (logs pows energies sheet : List ℤ) (s : State) (out : List ℕ) → (length out ≡ out_length → ⊥)
+    → out ≡ out_after (frame_result (indexed_call logs pows energies sheet s (room_in out))) out
+no_indexed_room logs pows energies sheet s out =
+    no_room (frame_result (indexed_call logs pows energies sheet s (room_in out))) out
+    (λ e. (index_passed logs pows sheet s (length (room_in out)) (rw (indexed_outcome_lem logs pows energies sheet s (room_in out)) at e)).lent)

@@ -1,22 +1,30 @@
--- A frame call that is not accepted leaves state and output. Assumes nothing.
+-- A frame call that is not accepted leaves state and output, and with an index sheet the energies; a call of one index leaves the energies. Assumes nothing.
 use mathlib.Core.Path.{◌≡◌, refl, ap, ◌∙◌}
 use mathlib.Core.Bool.{Bool, true, false}
 use mathlib.Core.List.{List}
 use Prim.Native.Nat.{ℕ}
 use native.Mathlib.Omega.{arith}
+use lib.IntN.{ℤ}
 use lib.ListN.{length}
+use Rattle.decoder.specs.Inputs.{FrameInputs}
 use Rattle.outcome.specs.Outcome.{Outcome, is_accepted}
+use Rattle.outcome.specs.Checks.{first_met}
 use Rattle.outcome.proofs.Variants.{accepted_number, accepted_place}
 use Rattle.state.specs.Layout.{state_count}
 use Rattle.state.proofs.Numbers.{numbers_of_state}
 use Rattle.coding.specs.Bytes.{words, bytes_of, Bytes}
 use Rattle.coding.proofs.Bytes.{bytes_back}
 use Rattle.coding.proofs.Laid.{bytes_length}
-use Rattle.mr74.specs.Checks.{frame_outcome}
-use Rattle.mr74.specs.Frame.{refused_trace, frame_trace, result_of, CallResult, frame_call}
-use Rattle.capi.specs.Capi.{state_length, fits, code_of, state_in, state_bytes, sheet_in, room_in, out_after, row_bytes, FrameReturn, frame_return, frame_bytes, RefusedUnchanged}
-use Rattle.capi.proofs.Codes.{frame_outcome_lem}
+use Rattle.gain.specs.Call.{decode_checks, gain_call}
+use Rattle.mr74.specs.Sheet.{sheet_inputs}
+use Rattle.mr74.specs.Checks.{frame_outcome, indexed_outcome}
+use Rattle.mr74.specs.Frame.{trace_by, frame_trace, result_of, frame_call}
+use Rattle.mr74.specs.Indexed.{indexed_inputs, opened_memory, indexed_trace, energies_after, indexed_call}
+use Rattle.capi.specs.Capi.{state_length, fits, code_of, state_in, state_bytes, sheet_in, room_in, FrameReturn, frame_after, frame_bytes, RefusedUnchanged}
+use Rattle.capi.specs.Indexed.{energies_length, index_sheet_in, table_in, energy_bytes, IndexedReturn, indexed_fits, indexed_bytes, gain_fits, gain_bytes, IndexedUnchanged, GainUnchanged}
+use Rattle.capi.proofs.Codes.{traced_outcome}
 use Rattle.capi.proofs.Calls.{lengths}
+use Rattle.capi.proofs.IndexedCalls.{indexed_lengths, gain_lengths}
 
 -- what is accepted has the code 0
 accepted_code : (o : Outcome) → is_accepted o ≡ true → code_of o ≡ 0
@@ -30,28 +38,77 @@ same_bytes state l b =
     let k : length (words state) ≡ state_count = omega (arith, e, bytes_length (words state), l) in
     ap bytes_of (numbers_of_state (words state) k) ∙ back
 
+-- ---- a frame, of its outcome and its inputs
+abbrev Same : List ℕ → List ℕ → FrameReturn → Type 0
+Same state out left = (left.code ≡ 0 → ⊥) → (left.state ≡ state) × (left.out ≡ out)
+
+same_frame : (state out : List ℕ) → Bytes state → length state ≡ state_length → (o : Outcome) (inputs : FrameInputs)
+    → Same state out (frame_after (result_of (trace_by o inputs (state_in state) (room_in out))) out)
+same_frame state out bytes l o inputs = go (is_accepted o) refl
+  where
+    go : (b : Bool) → is_accepted o ≡ b → Same state out (frame_after (result_of (trace_by o inputs (state_in state) (room_in out))) out)
+    go true e = λ n. absurd (n (ap code_of (traced_outcome o inputs (state_in state) (room_in out)) ∙ accepted_code o e))
+    go false e = rw (e, e) (λ n. (same_bytes state l bytes, refl))
+
+-- ---- the call of a frame sheet
 module _ (sheet state out rows places : List ℕ) (bytes : Bytes state) where
-  abbrev Same : FrameReturn → Type 0
-  Same left = (left.code ≡ 0 → ⊥) → (left.state ≡ state) × (left.out ≡ out)
-
-  abbrev left_by : CallResult → FrameReturn
-  left_by c = frame_return (code_of c.answer.outcome) (state_bytes c.answer.next) (out_after c out) (row_bytes c.answer.rows) c.answer.places
-
-  abbrev o : Outcome
-  o = frame_outcome (sheet_in sheet) (state_in state) (length (room_in out))
-
-  refused : is_accepted o ≡ false → frame_call (sheet_in sheet) (state_in state) (room_in out) ≡ result_of (refused_trace o (state_in state) (room_in out))
-  unfolding frame_call frame_trace
-  refused e = rw e
-
-  called_so : length state ≡ state_length → (b : Bool) → is_accepted o ≡ b → Same (left_by (frame_call (sheet_in sheet) (state_in state) (room_in out)))
-  called_so l true e = λ n. absurd (n (ap code_of (frame_outcome_lem (sheet_in sheet) (state_in state) (room_in out)) ∙ accepted_code o e))
-  called_so l false e = rw (refused e, e) (λ n. (same_bytes state l bytes, refl))
-
-  left_so : (b : Bool) → fits (length state) (length rows) (length places) ≡ b → Same (frame_bytes sheet state out rows places)
-  unfolding frame_bytes
-  left_so true e = rw e (called_so (lengths (length state) (length rows) (length places) e).0 (is_accepted o) refl)
+  left_so : (b : Bool) → fits (length state) (length rows) (length places) ≡ b → Same state out (frame_bytes sheet state out rows places)
+  unfolding frame_bytes frame_call frame_trace
+  left_so true e =
+      rw e
+      (same_frame state out bytes (lengths (length state) (length rows) (length places) e).0
+      (frame_outcome (sheet_in sheet) (state_in state) (length (room_in out)))
+      (sheet_inputs (sheet_in sheet)))
   left_so false e = rw e (λ n. (refl, refl))
 
 pub refused_unchanged : RefusedUnchanged
 refused_unchanged sheet state out rows places bytes = left_so sheet state out rows places bytes _ refl
+
+-- ---- the call of an index sheet
+module _ (sheet state out rows places logs pows energies : List ℕ) (bytes : Bytes state) (energy : Bytes energies) where
+  abbrev AllSame : IndexedReturn → Type 0
+  AllSame left = (left.frame.code ≡ 0 → ⊥) → (left.frame.state ≡ state) × (left.frame.out ≡ out) × (left.energies ≡ energies)
+
+  abbrev o : Outcome
+  o = indexed_outcome (table_in logs) (table_in pows) (index_sheet_in sheet) (state_in state) (length (room_in out))
+
+  same_energies : length energies ≡ energies_length → (b : Bool) → is_accepted o ≡ b → (code_of o ≡ 0 → ⊥)
+      → bytes_of (energies_after (table_in logs) (table_in pows) (words energies) (index_sheet_in sheet) (state_in state) (room_in out)) ≡ energies
+  same_energies l true e n = absurd (n (accepted_code o e))
+  same_energies l false e n = rw e (bytes_back 4 energies l energy)
+
+  index_left : (b : Bool) → indexed_fits (length state) (length rows) (length places) (length energies) ≡ b
+      → AllSame (indexed_bytes sheet state out rows places logs pows energies)
+  unfolding indexed_bytes indexed_call indexed_trace
+  index_left true e =
+      let l = indexed_lengths (length state) (length rows) (length places) (length energies) e in
+      rw e
+      (λ n.
+      let inputs = (indexed_inputs (table_in logs) (table_in pows) (index_sheet_in sheet) (opened_memory (words energies) (state_in state))).inputs in
+      let f = same_frame state out bytes l.0.0 o inputs n in
+      (f.0, f.1, same_energies l.1 (is_accepted o) refl (λ z. n (ap code_of (traced_outcome o inputs (state_in state) (room_in out)) ∙ z))))
+  index_left false e = rw e (λ n. (refl, refl, refl))
+
+pub indexed_unchanged : IndexedUnchanged
+indexed_unchanged sheet state out rows places logs pows energies bytes energy = index_left sheet state out rows places logs pows energies bytes energy _ refl
+
+-- ---- the call of one index
+module _ (index : ℤ) (innovation logs pows energies gains : List ℕ) (energy : Bytes energies) where
+  abbrev g : Outcome
+  g = first_met (decode_checks (table_in logs) (table_in pows) index)
+
+  kept_energies : length energies ≡ energies_length → (b : Bool) → is_accepted g ≡ b → (code_of g ≡ 0 → ⊥)
+      → energy_bytes (gain_call (table_in logs) (table_in pows) index (words innovation) (words energies)).gains.next ≡ energies
+  unfolding gain_call
+  kept_energies l true e n = absurd (n (accepted_code g e))
+  kept_energies l false e n = rw e (bytes_back 4 energies l energy)
+
+  gain_left : (b : Bool) → gain_fits (length innovation) (length energies) (length gains) ≡ b
+      → let left = gain_bytes index innovation logs pows energies gains in
+      (left.code ≡ 0 → ⊥) → left.energies ≡ energies
+  unfolding gain_bytes gain_call
+  gain_left true e = rw e (kept_energies (gain_lengths (length innovation) (length energies) (length gains) e).1.0 (is_accepted g) refl)
+  gain_left false e = rw e (λ n. refl)
+
+pub gain_unchanged : GainUnchanged
+gain_unchanged index innovation logs pows energies gains energy = gain_left index innovation logs pows energies gains energy _ refl

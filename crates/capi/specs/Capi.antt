@@ -1,4 +1,4 @@
--- The frame call, the reader and the writer over bytes. Numbers of 16 bits are two bytes, low byte first. A state is the bytes of a record's body.
+-- The frame call, the reader and the writer over bytes; the calls that take indices of gains are in Indexed.antt. Numbers of 16 bits are two bytes, low byte first. A state is the bytes of a record's body.
 use Rattle.std.specs.Prelude.{◌≡◌, Bool, cond, ◌&&◌, List, [], ◌∷◌, ℕ, ◌+◌, ◌*◌, eqb, ℤ, pos, length, replicate}
 use Rattle.lists.specs.Parts.{joined}
 use Rattle.lpc.specs.declared.Rows.{Rows}
@@ -11,15 +11,8 @@ use Rattle.record.specs.Record.{read_call, write_call}
 use Rattle.mr74.specs.Frame.{CallResult, frame_call}
 
 -- ---- how long the buffers are, in bytes: two for each number, one for each place
-abbrev pub sheet_count : ℕ
-sheet_count = 182
-
 abbrev pub sample_count : ℕ
 sample_count = 160
-
--- 364
-abbrev pub sheet_length : ℕ
-sheet_length = 2 * sheet_count
 
 -- 320
 abbrev pub out_length : ℕ
@@ -41,13 +34,18 @@ abbrev pub fits : ℕ → ℕ → ℕ → Bool
 fits state rows places = eqb state state_length && (eqb rows rows_length && eqb places places_length)
 
 -- ---- numbers and states
--- returned where a lent state, rows or places has another length than its own: no number of the paper's. Nothing lent is changed then
+-- returned where something lent has another length than its own that no refusal speaks of, as state, rows and places: no number of the paper's. Nothing lent is
+-- changed then
 abbrev pub unfit : ℕ
 unfit = 255
 
 -- number and place in one
 abbrev pub code_of : Outcome → ℕ
 code_of o = number_of o + 256 * place_of o
+
+-- the numbers of lent bytes, of which `count` are wanted: none where the bytes have another length, which the calls refuse
+abbrev pub lent_numbers : ℕ → List ℕ → List ℤ
+lent_numbers count bytes = cond (eqb (length bytes) (2 * count)) (words bytes) []
 
 abbrev pub state_in : List ℕ → State
 state_in bytes = state_of (words bytes)
@@ -56,9 +54,8 @@ abbrev pub state_bytes : State → List ℕ
 state_bytes s = bytes_of (numbers_of s)
 
 -- ---- the frame call
--- the sheet's numbers: none where it has another length, which the frame call refuses
 abbrev pub sheet_in : List ℕ → List ℤ
-sheet_in sheet = cond (eqb (length sheet) sheet_length) (words sheet) []
+sheet_in sheet = lent_numbers 182 sheet
 
 -- the room for samples in a lent output: none where it has another length, which the frame call refuses
 abbrev pub room_of : ℕ → ℕ
@@ -86,12 +83,16 @@ pub record FrameReturn : Type 0 where
 abbrev pub frame_return : ℕ → List ℕ → List ℕ → List ℕ → List ℕ → FrameReturn
 frame_return code state out rows places = record { code = code; state = state; out = out; rows = rows; places = places }
 
+-- what a call leaves whose lent state, rows and places have their lengths
+abbrev pub frame_after : CallResult → List ℕ → FrameReturn
+frame_after c out =
+    let a = c.answer in
+    frame_return (code_of a.outcome) (state_bytes a.next) (out_after c out) (row_bytes a.rows) a.places
+
 unfoldable pub frame_bytes : List ℕ → List ℕ → List ℕ → List ℕ → List ℕ → FrameReturn
 frame_bytes sheet state out rows places =
-    let c = frame_call (sheet_in sheet) (state_in state) (room_in out) in
-    let a = c.answer in
     cond (fits (length state) (length rows) (length places))
-    (frame_return (code_of a.outcome) (state_bytes a.next) (out_after c out) (row_bytes a.rows) a.places)
+    (frame_after (frame_call (sheet_in sheet) (state_in state) (room_in out)) out)
     (frame_return unfit state out rows places)
 
 -- ---- the reader

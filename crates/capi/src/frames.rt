@@ -5,24 +5,22 @@ ghost use Rattle.mr74.specs.Frame.{call_result, frame_call};
 ghost use Rattle.coding.specs.Bytes.{Bytes};
 ghost use Rattle.capi.specs.Capi.{code_of, sheet_in, room_in, out_after, row_bytes, state_bytes};
 
+use super::lent::lent_numbers;
 use super::{OUT_BYTES, PLACES_BYTES, ROWS_BYTES, STATE_BYTES, code};
 use lpc::Rows;
-use mr74::{FrameAnswer, SAMPLES, SHEET, SHEET_BYTES};
+use mr74::{FrameAnswer, SAMPLES, SHEET};
 use state::State;
 
-// The call of a sheet's bytes. A sheet of another length has no numbers, which the call refuses.
+// The call of a sheet's bytes.
 fn frame_in(sheet: &[u8], state: State, samples: &mut [i16]) -> FrameAnswer
     ensures { call_result result samples.new ≡ frame_call (sheet_in sheet.now) state samples.old }
 {
-    if sheet.len() != SHEET_BYTES {
-        return mr74::frame(&[], state, samples);
-    }
-    let numbers: [i16; SHEET] = coding::numbers_in(sheet);
-    mr74::frame(&numbers, state, samples)
+    let numbers: Option<[i16; SHEET]> = lent_numbers(sheet);
+    mr74::frame(numbers.as_slice().as_flattened(), state, samples)
 }
 
 // The same with the samples' bytes. An output of another length has no room for samples, which the call refuses.
-#[tactic(auto, using(crate::proofs::Buffers::no_room))]
+#[tactic(auto, using(crate::proofs::Buffers::no_frame_room))]
 pub fn frame_out(sheet: &[u8], state: State, out: &mut [u8]) -> FrameAnswer
     ensures value { result ≡ (frame_call (sheet_in sheet.now) state (room_in out.old)).answer }
     ensures out_after { out.new ≡ out_after (frame_call (sheet_in sheet.now) state (room_in out.old)) out.old }

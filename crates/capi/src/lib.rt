@@ -1,4 +1,4 @@
-// The frame call, the reader and the writer over bytes; the crate capi_c exports them for C and Rust (c/mr74.h).
+// The frame calls, the call of a gain's index, the reader and the writer over bytes; the crate capi_c exports them for C and Rust (c/mr74.h).
 #![tactic(auto)]
 
 ghost use Rattle.std.specs.Prelude.{◌≡◌, ◌<◌};
@@ -6,8 +6,13 @@ ghost use Rattle.outcome.specs.Outcome.{place_of};
 ghost use Rattle.capi.specs.Capi.{code_of, frame_return, frame_bytes, read_return, read_bytes, write_return, write_bytes};
 
 mod frames;
+mod gains;
+mod indexed;
+mod lent;
 
 use frames::{frame_out, give};
+pub use gains::mr74_gain_decode;
+pub use indexed::mr74_frame_indexed;
 use mr74::SAMPLES;
 use outcome::Outcome;
 
@@ -20,7 +25,16 @@ const ROWS_BYTES: usize = 2 * (4 * 11);
 
 const PLACES_BYTES: usize = 4;
 
-// What is returned where a lent state, rows or places has another length.
+const ENERGIES_BYTES: usize = 2 * 4;
+
+const INNOVATION_BYTES: usize = 2 * 40;
+
+const GAINS_BYTES: usize = 2 * 2;
+
+// The numbers of a table of logarithm or power.
+const TABLE: usize = 33;
+
+// What is returned where something lent that no refusal speaks of has another length.
 const UNFIT: u32 = 255;
 
 // Number and place in one.

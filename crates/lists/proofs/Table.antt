@@ -1,4 +1,4 @@
--- A rule of a table of integers, proved at all of its entries by one test that antt computes, one entry after the other.
+-- A rule of a table, of integers or of rows, proved at all of its entries by one test that antt computes, one entry after the other.
 -- Assumes nothing.
 use mathlib.Core.Path.{◌≡◌, ◌∙◌, subst, sym, ap}
 use mathlib.Core.Bool.{Bool, true, false, ◌&&◌}
@@ -8,7 +8,7 @@ use Prim.Native.Nat.{ℕ, zero, suc, ◌+◌, ◌<◌}
 use native.Mathlib.Nat.{add-zero, zero-add, add-suc, suc-add, le_of_suc-le-suc, not-suc-le-zero, eq-or-lt_of_le}
 use lib.Dec.{T, eqb→eq}
 use lib.IntN.{ℤ, pos, negsuc}
-use lib.ListN.{length}
+use lib.ListN.{length, get_or}
 use Rattle.lists.specs.Lists.{at, eq_z}
 
 pub both_pass : (a b : Bool) → T (a && b) → T a × T b
@@ -16,19 +16,23 @@ both_pass true b t = (tt, t)
 both_pass false b t = absurd t
 
 -- the test f passes at each entry of the list and its place, counted from i
-abbrev pub every : (ℕ → ℤ → Bool) → ℕ → List ℤ → Bool
+abbrev pub every : {A : Type 0} → (ℕ → A → Bool) → ℕ → List A → Bool
 every f i [] = true
 every f i (x ∷ xs) = f i x && every f (suc i) xs
 
-from : (f : ℕ → ℤ → Bool) (xs : List ℤ) (i : ℕ) → T (every f i xs) → (k : ℕ) → k < length xs → T (f (i + k) (at xs k))
-from f [] i t k h = absurd (not-suc-le-zero h)
-from f (x ∷ xs) i t zero h = subst (λ (m : ℕ). T (f m x)) (sym (add-zero i)) (both_pass (f i x) (every f (suc i) xs) t).0
-from f (x ∷ xs) i t (suc k) h =
-    subst (λ (m : ℕ). T (f m (at xs k))) (suc-add i k ∙ sym (add-suc i k))
-    (from f xs (suc i) (both_pass (f i x) (every f (suc i) xs) t).1 k (le_of_suc-le-suc h))
+from : {A : Type 0} (f : ℕ → A → Bool) (xs : List A) (d : A) (i : ℕ) → T (every f i xs) → (k : ℕ) → k < length xs → T (f (i + k) (get_or xs k d))
+from f [] d i t k h = absurd (not-suc-le-zero h)
+from f (x ∷ xs) d i t zero h = subst (λ (m : ℕ). T (f m x)) (sym (add-zero i)) (both_pass (f i x) (every f (suc i) xs) t).0
+from f (x ∷ xs) d i t (suc k) h =
+    subst (λ (m : ℕ). T (f m (get_or xs k d))) (suc-add i k ∙ sym (add-suc i k))
+    (from f xs d (suc i) (both_pass (f i x) (every f (suc i) xs) t).1 k (le_of_suc-le-suc h))
+
+-- of any entries, d being what stands for one past the end; and of integers
+pub each_entry : {A : Type 0} (f : ℕ → A → Bool) (xs : List A) (d : A) → T (every f 0 xs) → (k : ℕ) → k < length xs → T (f k (get_or xs k d))
+each_entry f xs d t k h = subst (λ (m : ℕ). T (f m (get_or xs k d))) (zero-add k) (from f xs d 0 t k h)
 
 pub at_each : (f : ℕ → ℤ → Bool) (xs : List ℤ) → T (every f 0 xs) → (k : ℕ) → k < length xs → T (f k (at xs k))
-at_each f xs t k h = subst (λ (m : ℕ). T (f m (at xs k))) (zero-add k) (from f xs 0 t k h)
+at_each f xs = each_entry f xs (pos 0)
 
 -- the test of equality, passed
 pub eq_z→eq : (a b : ℤ) → T (eq_z a b) → a ≡ b

@@ -15,7 +15,7 @@ use Rattle.lists.proofs.Entries.{stretch_at}
 use Rattle.spectral.specs.Lsp.{Frequencies}
 use Rattle.outcome.specs.declared.Refusal.TheVariants.{Lsf, PitchIndex, Gain, LsfGap}
 use Rattle.outcome.specs.Outcome.{place_of, is_accepted}
-use Rattle.outcome.specs.Checks.{first_met, first_outside, first_close}
+use Rattle.outcome.specs.Checks.{Check, first_met, first_outside, first_close}
 use Rattle.outcome.proofs.Checks.{none_met, Placed, placed_append, none_placed, found_placed, place_low}
 use Rattle.outcome.proofs.Ranges.{in_ranges, in_range_all}
 use Rattle.outcome.proofs.Gaps.{in_gaps}
@@ -23,7 +23,9 @@ use Rattle.state.specs.declared.State.{State}
 use Rattle.state.specs.State.{state_checks}
 use Rattle.state.proofs.Checks.{state_placed}
 use Rattle.mr74.specs.Sheet.{lsfs_of, gains_of}
-use Rattle.mr74.specs.Checks.{length_checks, lsf_checks, pitch_checks, gain_checks, sheet_checks, frame_checks, frame_outcome, GapsKept}
+use Rattle.gain.specs.Checks.{table_checks, index_checks}
+use Rattle.gain.proofs.Groups.{tables_placed, indices_placed}
+use Rattle.mr74.specs.Checks.{length_checks, lsf_checks, pitch_checks, gain_checks, sheet_checks, gain_indices_of, index_sheet_checks, call_checks, frame_outcome, indexed_outcome, GapsKept, call_outcome}
 
 -- ---- what a group has shown
 pub lengths_accept : (count numbers room : ℕ) → is_accepted (first_met (length_checks count numbers room)) ≡ true → (numbers ≡ count) × (room ≡ 160)
@@ -80,11 +82,21 @@ module _ (sheet : List ℤ) where
   gains_placed : Placed (gain_checks sheet)
   gains_placed = (found_placed Gain _ 8 (λ k h. omega arith), tt)
 
-  sheet_placed : Placed (sheet_checks sheet)
-  sheet_placed = placed_append (lsf_checks sheet) (pitch_checks sheet ++ gain_checks sheet) lsfs_placed (placed_append (pitch_checks sheet) (gain_checks sheet) pitch_placed gains_placed)
+-- LSFs and pitch indices first, then others
+placed_sheet : (sheet : List ℤ) (checks : List Check) → Placed checks → Placed (lsf_checks sheet ++ (pitch_checks sheet ++ checks))
+placed_sheet sheet checks p = placed_append (lsf_checks sheet) (pitch_checks sheet ++ checks) (lsfs_placed sheet) (placed_append (pitch_checks sheet) checks (pitch_placed sheet) p)
 
-  pub outcome_place : (s : State) (room : ℕ) → place_of (frame_outcome sheet s room) < 256
-  unfolding frame_outcome
-  outcome_place s room =
-      place_low (frame_checks sheet s room)
-      (placed_append (length_checks 182 (length sheet) room) (sheet_checks sheet ++ state_checks s) (none_placed (length_checks 182 (length sheet) room) tt) (placed_append (sheet_checks sheet) (state_checks s) sheet_placed (state_placed s)))
+call_place : (count : ℕ) (checks : List Check) (sheet : List ℤ) (s : State) (room : ℕ) → Placed checks → place_of (first_met (call_checks count checks sheet s room)) < 256
+call_place count checks sheet s room p =
+    place_low (call_checks count checks sheet s room)
+    (placed_append (length_checks count (length sheet) room) (checks ++ state_checks s) (none_placed (length_checks count (length sheet) room) tt) (placed_append checks (state_checks s) p (state_placed s)))
+
+pub outcome_place : (sheet : List ℤ) (s : State) (room : ℕ) → place_of (frame_outcome sheet s room) < 256
+unfolding call_outcome
+outcome_place sheet s room = call_place 182 (sheet_checks sheet) sheet s room (placed_sheet sheet (gain_checks sheet) (gains_placed sheet))
+
+pub indexed_place : (logs pows sheet : List ℤ) (s : State) (room : ℕ) → place_of (indexed_outcome logs pows sheet s room) < 256
+unfolding call_outcome
+indexed_place logs pows sheet s room =
+    call_place 178 (index_sheet_checks logs pows sheet) sheet s room
+    (placed_sheet sheet (table_checks logs pows ++ index_checks 4 (gain_indices_of sheet)) (placed_append (table_checks logs pows) (index_checks 4 (gain_indices_of sheet)) (tables_placed logs pows) (indices_placed 4 (gain_indices_of sheet) (omega arith))))

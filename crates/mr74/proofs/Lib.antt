@@ -1,9 +1,14 @@
--- Sheets: a sheet's lags and inputs. Groups: the groups of checks. Order: one after another. Passed: what an accepted call has shown. Usable: the inputs of an accepted sheet. Answers: the call's answer from its parts. Places: what its places lie in. Divisions: how many a frame tells.
+-- Sheets: a sheet's pitch indices, as the code has them. Groups: the groups of checks. Order: one after another. Passed, IndexPassed: what an accepted call has shown.
+-- Usable: the inputs of an accepted sheet. Answers: a call's answer from its parts. Places: what its places lie in. Divisions: how many a frame tells.
+-- WithGains: the frame sheet with gains in place of indices. Indexed: an index call is the frame call of the gains that it obtains.
 pub mod Sheets
 pub mod Groups
 pub mod Order
 pub mod Passed
+pub mod IndexPassed
 pub mod Usable
 pub mod Answers
 pub mod Places
 pub mod Divisions
+pub mod WithGains
+pub mod Indexed

@@ -1,14 +1,15 @@
--- What turns a frame call back: document 01, "Turned back by the sheet", document 02, 3/13, and 16 and 17 of the state, in groups, in the frame order
--- 1, 5, 2, 6, 3, 4, 16, 17.
+-- What turns a frame call back: document 01, "Turned back by the sheet", document 02, 3/13 and 5/13, and 16 and 17 of the state, in groups, in the order
+-- 1, 5, 2, 6, 3, 4, 16, 17 of a frame sheet, and 1, 5, 2, 6, 3, 7, 8, 16, 17 of an index sheet.
 -- The theorem is `accepted_gaps` in proofs/Passed.antt.
-use Rattle.std.specs.Prelude.{◌≡◌, not, true, List, [], ◌∷◌, ◌++◌, ℕ, ◌+◌, ◌<◌, eqb, ℤ, pos, ◌+ℤ◌, length, replicate, ◌≤ℤ◌}
+use Rattle.std.specs.Prelude.{◌≡◌, not, true, List, [], ◌∷◌, ◌++◌, ℕ, ◌+◌, ◌<◌, eqb, ℤ, pos, ◌+ℤ◌, length, take, drop, replicate, ◌≤ℤ◌}
 use Rattle.lists.specs.Lists.{at}
 use Rattle.outcome.specs.declared.Refusal.TheVariants.{SheetLength, Lsf, PitchIndex, Gain, OutputLength, LsfGap}
 use Rattle.outcome.specs.Outcome.{Outcome, is_accepted}
 use Rattle.outcome.specs.Checks.{Check, check, place_check, first_met, first_outside, first_close}
 use Rattle.state.specs.declared.State.{State}
 use Rattle.state.specs.State.{state_checks}
-use Rattle.mr74.specs.Sheet.{lsfs_of, indices_of, gains_of}
+use Rattle.gain.specs.Checks.{table_checks, index_checks}
+use Rattle.mr74.specs.Sheet.{lsfs_of, pitch_indices_of, gains_of}
 
 -- 1: another count of numbers than the sheet's; 5: no room for 160 samples
 abbrev pub length_checks : ℕ → ℕ → ℕ → List Check
@@ -27,7 +28,7 @@ lsf_checks sheet =
 
 -- 3: a pitch index outside 0..=255 in subframes 0 and 2, outside 0..=31 in 1 and 3
 abbrev pub pitch_checks : List ℤ → List Check
-pitch_checks sheet = place_check PitchIndex (first_outside (indices_of sheet) (pos 255 ∷ pos 31 ∷ pos 255 ∷ pos 31 ∷ [])) 4 ∷ []
+pitch_checks sheet = place_check PitchIndex (first_outside (pitch_indices_of sheet) (pos 255 ∷ pos 31 ∷ pos 255 ∷ pos 31 ∷ [])) 4 ∷ []
 
 -- 4: a negative gain. Gains have no upper limit: each is its own
 abbrev pub gain_checks : List ℤ → List Check
@@ -37,12 +38,26 @@ gain_checks sheet = place_check Gain (first_outside (gains_of sheet) (gains_of s
 abbrev pub sheet_checks : List ℤ → List Check
 sheet_checks sheet = lsf_checks sheet ++ (pitch_checks sheet ++ gain_checks sheet)
 
--- of a sheet, a state and the length of the lent output
-abbrev pub frame_checks : List ℤ → State → ℕ → List Check
-frame_checks sheet s room = length_checks 182 (length sheet) room ++ (sheet_checks sheet ++ state_checks s)
+-- ---- an index sheet
+abbrev pub gain_indices_of : List ℤ → List ℤ
+gain_indices_of sheet = take 4 (drop 14 sheet)
 
-unfoldable pub frame_outcome : List ℤ → State → ℕ → Outcome
-frame_outcome sheet s room = first_met (frame_checks sheet s room)
+-- its numbers, and the lent tables: 7 and 8 stand where 4 stood
+abbrev pub index_sheet_checks : List ℤ → List ℤ → List ℤ → List Check
+index_sheet_checks logs pows sheet = lsf_checks sheet ++ (pitch_checks sheet ++ (table_checks logs pows ++ index_checks 4 (gain_indices_of sheet)))
+
+-- ---- a call: of its sheet `count` numbers are wanted, and have checks of their own; the state, and the length of the lent output
+abbrev pub call_checks : ℕ → List Check → List ℤ → State → ℕ → List Check
+call_checks count checks sheet s room = length_checks count (length sheet) room ++ (checks ++ state_checks s)
+
+unfoldable pub call_outcome : ℕ → (List ℤ → List Check) → List ℤ → State → ℕ → Outcome
+call_outcome count checks sheet s room = first_met (call_checks count (checks sheet) sheet s room)
+
+abbrev pub frame_outcome : List ℤ → State → ℕ → Outcome
+frame_outcome sheet s room = call_outcome 182 sheet_checks sheet s room
+
+abbrev pub indexed_outcome : List ℤ → List ℤ → List ℤ → State → ℕ → Outcome
+indexed_outcome logs pows sheet s room = call_outcome 178 (index_sheet_checks logs pows) sheet s room
 
 -- ---- "A sheet that breaks the gap is no longer an accepted one"
 pub record GapsKept (sheet : List ℤ) : Type 0 where

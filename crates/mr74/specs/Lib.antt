@@ -1,5 +1,6 @@
 pub mod Sheet
 pub mod Checks
 pub mod Frame
+pub mod Indexed
 pub mod Divisions
 pub mod Inner

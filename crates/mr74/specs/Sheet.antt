@@ -1,4 +1,5 @@
 -- The frame sheet of document 01: 0..9 LSF; 10..13 pitch indices; 14..21 gains, pitch then code for each subframe; 22..181 innovation, forty for each subframe.
+-- Numbers 0..13 are an index sheet's too.
 use Rattle.std.specs.Prelude.{List, [], ◌∷◌, ◌++◌, ℕ, suc, ◌+◌, ◌*◌, ℤ, take, drop}
 use Rattle.lists.specs.Lists.{at}
 use Rattle.pitch.specs.Lag.{Lag, absolute, relative}
@@ -7,8 +8,8 @@ use Rattle.decoder.specs.Inputs.{SubframeInputs, FrameInputs}
 abbrev pub lsfs_of : List ℤ → List ℤ
 lsfs_of sheet = take 10 sheet
 
-abbrev pub indices_of : List ℤ → List ℤ
-indices_of sheet = take 4 (drop 10 sheet)
+abbrev pub pitch_indices_of : List ℤ → List ℤ
+pitch_indices_of sheet = take 4 (drop 10 sheet)
 
 abbrev pub gains_of : List ℤ → List ℤ
 gains_of sheet = take 8 (drop 14 sheet)

@@ -1,10 +1,12 @@
-// What turns a frame call back: groups of checks, in the frame order 1, 5, 2, 6, 3, 4, 16, 17.
-ghost use Rattle.std.specs.Prelude.{◌≡◌, length};
+// What turns a frame call back: groups of checks, in the order 1, 5, 2, 6, 3, 4, 16, 17 of a frame sheet and 1, 5, 2, 6, 3, 7, 8, 16, 17 of an index sheet.
+ghost use Rattle.std.specs.Prelude.{◌≡◌, ◌≤◌, length};
 ghost use Rattle.outcome.specs.Checks.{first_met, Checked};
-ghost use Rattle.mr74.specs.Checks.{length_checks, lsf_checks, pitch_checks, gain_checks, sheet_checks, frame_outcome};
+ghost use Rattle.mr74.specs.Checks.{length_checks, lsf_checks, pitch_checks, gain_checks, sheet_checks, frame_outcome, index_sheet_checks, indexed_outcome};
 
-use super::{SAMPLES, SHEET};
+use super::{INDEX_SHEET, SAMPLES, SHEET};
+use crate::index_sheet::CheckedIndexSheet;
 use crate::sheet::CheckedSheet;
+use gain::Tables;
 use outcome::{Outcome, Refusal};
 use state::State;
 
@@ -27,7 +29,8 @@ fn check_lengths<const N: usize>(sheet: &[i16], room: usize) -> Result<&[i16; N]
 }
 
 // 2: an LSF outside 0..=16384. 6: the first LSF below 205, or a later one less than 205 above the one before.
-fn check_lsfs(sheet: &[i16; SHEET]) -> Outcome
+fn check_lsfs(sheet: &[i16]) -> Outcome
+    requires { 10 ≤ length sheet.now }
     ensures { result ≡ first_met (lsf_checks sheet.now) }
 {
     let lsfs = &sheet[..10];
@@ -42,7 +45,8 @@ fn check_lsfs(sheet: &[i16; SHEET]) -> Outcome
 }
 
 // 3: a pitch index outside 0..=255 (subframes 0 and 2) or 0..=31.
-fn check_pitch(sheet: &[i16; SHEET]) -> Outcome
+fn check_pitch(sheet: &[i16]) -> Outcome
+    requires { 14 ≤ length sheet.now }
     ensures { result ≡ first_met (pitch_checks sheet.now) }
 {
     let limits = [255i16, 31, 255, 31];
@@ -72,8 +76,8 @@ fn check_sheet(sheet: &[i16; SHEET]) -> Outcome
     check_gains(sheet)
 }
 
-// In the frame order 1, 5, 2, 6, 3, 4, 16, 17.
-#[tactic(auto, using(crate::proofs::Order::state_decides))]
+// In the order 1, 5, 2, 6, 3, 4, 16, 17.
+#[tactic(auto, using(crate::proofs::Order::lengths_refuse, crate::proofs::Order::state_decides))]
 pub fn check_frame(sheet: &[i16], state: State, room: usize) -> Result<CheckedSheet<'_>, Refusal>
     ensures { Checked result (frame_outcome sheet.now state room) (λ checked. checked.numbers.now ≡ sheet.now) }
 {
@@ -81,4 +85,36 @@ pub fn check_frame(sheet: &[i16], state: State, room: usize) -> Result<CheckedSh
     check_sheet(numbers)?;
     state::check_state(state)?;
     Ok(CheckedSheet { numbers })
+}
+
+// The numbers of an index sheet, and the lent tables.
+fn check_index_sheet<'a>(
+    sheet: &[i16; INDEX_SHEET],
+    logs: &'a [i16],
+    pows: &'a [i16],
+) -> Result<Tables<'a>, Refusal>
+    ensures { Checked result (first_met (index_sheet_checks logs.now pows.now sheet.now)) (λ tables. (tables.logs.now ≡ logs.now) × (tables.pows.now ≡ pows.now)) }
+{
+    check_lsfs(sheet)?;
+    check_pitch(sheet)?;
+    let tables = gain::check_tables(logs, pows)?;
+    gain::check_indices::<4>(copy::window(sheet, 14))?;
+    Ok(tables)
+}
+
+// In the order 1, 5, 2, 6, 3, 7, 8, 16, 17.
+#[tactic(auto, using(crate::proofs::Order::lengths_refuse, crate::proofs::Order::state_decides))]
+pub fn check_indexed<'a>(
+    sheet: &'a [i16],
+    state: State,
+    logs: &'a [i16],
+    pows: &'a [i16],
+    room: usize,
+) -> Result<CheckedIndexSheet<'a>, Refusal>
+    ensures { Checked result (indexed_outcome logs.now pows.now sheet.now state room) (λ checked. (checked.numbers.now ≡ sheet.now) × (checked.tables.logs.now ≡ logs.now) × (checked.tables.pows.now ≡ pows.now)) }
+{
+    let numbers = check_lengths(sheet, room)?;
+    let tables = check_index_sheet(numbers, logs, pows)?;
+    state::check_state(state)?;
+    Ok(CheckedIndexSheet { numbers, tables })
 }

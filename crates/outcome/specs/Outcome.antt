@@ -1,7 +1,7 @@
--- Refusals: document 01, "Turned back by the sheet" and "Turned back by the state", and document 02, 3/13 (number 6).
+-- Refusals: document 01, "Turned back by the sheet" and "Turned back by the state", and document 02, 3/13 (number 6) and 5/13 (7 and 8).
 use Rattle.std.specs.Prelude.{Bool, ℕ, eqb, Result, Ok, Err}
 use Rattle.outcome.specs.declared.Refusal.{Refusal}
-use Rattle.outcome.specs.declared.Refusal.TheVariants.{SheetLength, Lsf, PitchIndex, Gain, OutputLength, LsfGap}
+use Rattle.outcome.specs.declared.Refusal.TheVariants.{SheetLength, Lsf, PitchIndex, Gain, OutputLength, LsfGap, Table, GainIndex}
 use Rattle.outcome.specs.declared.Refusal.TheVariants.{RecordShort, Tag, Version, Layout, BodyShort, Sharpening, SmoothedGain}
 
 -- what a call comes to: it is accepted, or a check turns it back
@@ -16,6 +16,8 @@ refusal_number (PitchIndex place) = 3
 refusal_number (Gain place) = 4
 refusal_number OutputLength = 5
 refusal_number (LsfGap place) = 6
+refusal_number (Table place) = 7
+refusal_number (GainIndex place) = 8
 refusal_number RecordShort = 11
 refusal_number Tag = 12
 refusal_number Version = 13
@@ -32,6 +34,8 @@ refusal_place (PitchIndex place) = place
 refusal_place (Gain place) = place
 refusal_place OutputLength = 0
 refusal_place (LsfGap place) = place
+refusal_place (Table place) = place
+refusal_place (GainIndex place) = place
 refusal_place RecordShort = 0
 refusal_place Tag = 0
 refusal_place Version = 0

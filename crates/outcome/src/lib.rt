@@ -7,7 +7,7 @@ ghost use Rattle.outcome.specs.Checks.{within, apart, found, first_outside, firs
 
 use std::iter::once;
 
-// Document 01's refusals and document 02's, by their numbers. A place goes with 2, 3, 4 and 6.
+// Document 01's refusals and document 02's, by their numbers. A place goes with 2, 3, 4, 6, 7 and 8.
 #[derive(Clone, Copy, Debug, PartialEq, Eq)]
 pub enum Refusal {
     // 1
@@ -22,6 +22,10 @@ pub enum Refusal {
     OutputLength,
     // 6
     LsfGap(usize),
+    // 7
+    Table(usize),
+    // 8
+    GainIndex(usize),
     // 11
     RecordShort,
     // 12
@@ -52,6 +56,8 @@ impl Refusal {
             Refusal::Gain(_) => 4,
             Refusal::OutputLength => 5,
             Refusal::LsfGap(_) => 6,
+            Refusal::Table(_) => 7,
+            Refusal::GainIndex(_) => 8,
             Refusal::RecordShort => 11,
             Refusal::Tag => 12,
             Refusal::Version => 13,
@@ -70,7 +76,9 @@ impl Refusal {
             Refusal::Lsf(place)
             | Refusal::PitchIndex(place)
             | Refusal::Gain(place)
-            | Refusal::LsfGap(place) => place,
+            | Refusal::LsfGap(place)
+            | Refusal::Table(place)
+            | Refusal::GainIndex(place) => place,
             _ => 0,
         }
     }

@@ -1,4 +1,4 @@
-// Runs the recorded answers of the reference, the files of data/, through the stages and the three calls, and says for each file how many records there are
+// Runs the recorded answers of the reference, the files of data/, through the stages and the five calls, and says for each file how many records there are
 // and how many differ. A record is a row of 16-bit words, low byte first: inputs, then answers.
 #![tactic(auto)]
 
@@ -7,6 +7,7 @@ ghost use Rattle.std.specs.Prelude.{◌≤◌};
 mod compare;
 mod filters;
 mod frames;
+mod gains;
 mod records;
 mod stages;
 mod words;
@@ -113,5 +114,9 @@ fn main(rt: HostRuntime) -> io::Result<()> {
     file(&rt, "refused.bin", 385, frames::refused)?;
     file(&rt, "record_read.bin", 410, records::record_read)?;
     file(&rt, "record_write.bin", 400, records::record_write)?;
+    file(&rt, "gain_decode.bin", 117, gains::decode)?;
+    file(&rt, "gain_refused.bin", 79, gains::refused)?;
+    file(&rt, "frame_indexed.bin", 854, gains::frame)?;
+    file(&rt, "refused_indexed.bin", 461, gains::refused_frame)?;
     cut_records(&rt)
 }

@@ -1,5 +1,8 @@
-// Runs document 01's values to hold through the code, the starred ones among them, means of peaks and shift reports, and prints each with its input.
+// Runs document 01's values to hold through the code, the starred ones among them, gains from their index and an index frame, means of peaks and shift
+// reports, and prints each with its input.
 #![tactic(auto)]
+
+mod gains;
 
 use pitch::{Fraction, PitchLag};
 use std::fmt::Display;
@@ -172,6 +175,9 @@ fn main(rt: HostRuntime) -> io::Result<()> {
     inverse_roots(&rt)?;
     energies(&rt)?;
     first_clamps(&rt)?;
+    gains::decoded_gains(&rt)?;
+    gains::index_frame(&rt)?;
+    gains::frame_of_gains(&rt)?;
     peaks(&rt)?;
     peak_below_zero(&rt)?;
     marks(&rt)?;

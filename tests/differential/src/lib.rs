@@ -1,5 +1,7 @@
 //! The calls of `crates/capi/c/mr74.h`, and the reference's answers to the same bytes.
 
+pub mod gains;
+
 use reference::{FRAME, NOWHERE, ROW, SHEET, STATE, SUBFRAMES, frame, record};
 
 pub const SHEET_BYTES: usize = 2 * SHEET;
@@ -23,6 +25,37 @@ mod ffi {
             rows_bytes: usize,
             places: *mut u8,
             places_bytes: usize,
+        ) -> u32;
+        pub fn mr74_frame_indexed(
+            sheet: *const u8,
+            sheet_bytes: usize,
+            state: *mut u8,
+            state_bytes: usize,
+            out: *mut u8,
+            out_bytes: usize,
+            rows: *mut u8,
+            rows_bytes: usize,
+            places: *mut u8,
+            places_bytes: usize,
+            log_table: *const u8,
+            log_table_bytes: usize,
+            pow_table: *const u8,
+            pow_table_bytes: usize,
+            energies: *mut u8,
+            energies_bytes: usize,
+        ) -> u32;
+        pub fn mr74_gain_decode(
+            index: i16,
+            innovation: *const u8,
+            innovation_bytes: usize,
+            log_table: *const u8,
+            log_table_bytes: usize,
+            pow_table: *const u8,
+            pow_table_bytes: usize,
+            energies: *mut u8,
+            energies_bytes: usize,
+            gains: *mut u8,
+            gains_bytes: usize,
         ) -> u32;
         pub fn mr74_read(
             record: *const u8,
@@ -90,27 +123,18 @@ impl Lent {
     /// The reference's answer to the same bytes.
     #[inline(never)]
     pub fn reference(&mut self, sheet: &[u8]) {
+        self.answer(|state, samples| frame::frame(&whole_words(sheet), state, samples));
+    }
+
+    /// What an answer leaves; it is asked for where state, rows and places have their lengths.
+    fn answer(&mut self, answer: impl FnOnce(&[i16; STATE], &mut [i16]) -> frame::Answer) {
         let fits = self.rows.len() == ROWS_BYTES && self.places.len() == PLACES_BYTES;
-        let (Ok(state), true) = (words(&self.state).try_into(), fits) else {
+        let (Ok(state), true) = (whole_words(&self.state).try_into(), fits) else {
             self.code = UNFIT;
             return;
         };
-        if self.state.len() != STATE_BYTES {
-            self.code = UNFIT;
-            return;
-        }
-        // What is not made of whole numbers has no length that is accepted.
-        let sheet = if sheet.len().is_multiple_of(2) {
-            words(sheet)
-        } else {
-            Vec::new()
-        };
-        let mut samples = if self.out.len().is_multiple_of(2) {
-            words(&self.out)
-        } else {
-            Vec::new()
-        };
-        let answer = frame::frame(&sheet, &state, &mut samples);
+        let mut samples = whole_words(&self.out);
+        let answer = answer(&state, &mut samples);
         self.code = answer.refusal as u32 + 256 * answer.place as u32;
         put(&mut self.state, &answer.state);
         put(&mut self.rows, answer.rows.as_flattened());
@@ -183,6 +207,15 @@ pub fn bytes(numbers: &[i16]) -> Vec<u8> {
 fn put(into: &mut [u8], numbers: &[i16]) {
     for (pair, number) in into.chunks_exact_mut(2).zip(numbers) {
         pair.copy_from_slice(&number.to_le_bytes());
+    }
+}
+
+/// The numbers of bytes. What is not made of whole numbers has no length that is accepted: none.
+fn whole_words(bytes: &[u8]) -> Vec<i16> {
+    if bytes.len().is_multiple_of(2) {
+        words(bytes)
+    } else {
+        Vec::new()
     }
 }
 

@@ -1,6 +1,8 @@
 //! `differential [FRAMES [SEED]]`: the static library against the reference, on FRAMES chained frames (200000) from a seed
-//! and a sixth as many whose sheets the source draws, and on sheets, buffers and records of every length about each boundary.
-//! Every byte that a call leaves is compared.
+//! and a sixth as many whose sheets the source draws, on half as many of index sheets and as many gains of an index, and on
+//! sheets, buffers and records of every length about each boundary. Every byte that a call leaves is compared.
+
+mod indexed;
 
 use differential::{
     Lent, OUT_BYTES, PLACES_BYTES, ROWS_BYTES, SHEET_BYTES, STATE_BYTES, bytes, read,
@@ -473,6 +475,13 @@ fn main() -> ExitCode {
         chained(&mut tally, &mut random, kind, share);
     }
     by_source(&mut tally, &mut random, share);
+    // After them, so that the frames are the same as without these.
+    indexed::boundaries(&mut tally, &mut random);
+    for kind in 0..KINDS.len() {
+        indexed::chained(&mut tally, &mut random, kind, share.div_ceil(2));
+    }
+    indexed::by_source(&mut tally, &mut random, share.div_ceil(2));
+    indexed::gains(&mut tally, &mut random, frames);
     if tally.end() {
         ExitCode::SUCCESS
     } else {

@@ -3,9 +3,10 @@
 
 use crate::{
     FRAME, NOWHERE, STATE, draw, frame,
-    model::{self, Trace},
+    gain::{self, OPENING},
+    model::{self, Trace, gains},
     mr74::stages,
-    program,
+    part, program,
     random::Random,
     tally::Tally,
 };
@@ -43,6 +44,48 @@ fn frames(tally: &mut Tally, count: u64, seed: u64) {
         state = answer.state;
     }
     let text = format!("{count} frames from seed {seed}, {retried} subframes retried");
+    tally.line(true, &text);
+}
+
+/// Chained index frames, each with tables of its own; and as many calls of an index.
+fn index_calls(tally: &mut Tally, count: u64, seed: u64) {
+    let mut random = Random::new(seed);
+    let (mut state, mut energies) = ([0; STATE], OPENING);
+    let mut trace = Trace::default();
+    for number in 0..count {
+        if number % CHAIN == CHAIN - 1 {
+            let limit = draw::level(&mut random);
+            let drawn = draw::state(&mut random, limit);
+            state = drawn.try_into().expect("a state has 197 numbers");
+            energies = draw::gains::energies(&mut random);
+        }
+        let tables = draw::gains::tables(&mut random);
+        let sheet = draw::gains::accepted(&mut random);
+        let numbers = part(&sheet, 0);
+        let mut wanted = vec![0; FRAME];
+        let lent = (&tables).into();
+        let answer = frame::frame_indexed(&sheet, &state, lent, &energies, &mut wanted);
+        assert_eq!(answer.frame.refusal, 0, "the drawn sheets are accepted");
+        wanted.extend(answer.frame.places);
+        wanted.extend(answer.frame.rows.as_flattened());
+        wanted.extend(answer.frame.state);
+        wanted.extend(answer.energies);
+        let got = gains::frame_indexed(&mut trace, &numbers, &state, &tables, &energies);
+        let index = random.word(0, 127);
+        let innovation = draw::gains::sharpened(&mut random);
+        let decoded = gain::decode(index, &innovation, lent, &energies);
+        let gains = ([decoded.pitch, decoded.code], decoded.energies);
+        let good = got == wanted
+            && gains == gains::gains(&mut trace, index, &innovation, &tables, &energies);
+        if !good {
+            tally.line(false, &format!("index call {number} from seed {seed}"));
+            println!("sheet {sheet:?}\nstate {state:?}\ntables {tables:?}\nenergies {energies:?}");
+            println!("index {index}, innovation {innovation:?}");
+            return;
+        }
+        (state, energies) = (answer.frame.state, answer.energies);
+    }
+    let text = format!("{count} index frames and {count} gains from seed {seed}");
     tally.line(true, &text);
 }
 
@@ -90,5 +133,6 @@ pub fn run(count: u64, seed: u64) -> bool {
         |value| model::inverse_sqrt(i64::from(value)) == i64::from(stages::inverse_sqrt(value)),
     );
     frames(&mut tally, count, seed);
+    index_calls(&mut tally, count, seed);
     tally.end()
 }

@@ -1,7 +1,6 @@
 //! What the recorded answers cover, counted from the files themselves.
 
 use crate::{
-    SHEET, STATE,
     files::{FILES, File, Kind},
     model::Trace,
     tally::Tally,
@@ -59,13 +58,11 @@ fn count(file: &File, records: &[Vec<i16>], tally: &mut Tally) {
         }
     }
     if name.starts_with("frame_") {
-        let chained = records
-            .windows(2)
-            .filter(|pair| pair[0].ends_with(&pair[1][SHEET..SHEET + STATE]))
-            .count();
+        let chained = records.windows(2).filter(|pair| file.is_chained(pair));
+        let count = chained.count();
         tally.line(
-            chained > 0,
-            &format!("{name}: chained to the record before: {chained}"),
+            count > 0,
+            &format!("{name}: chained to the record before: {count}"),
         );
     }
     for &fault in file.faults {

@@ -1,6 +1,8 @@
 //! The inputs of the recorded files, drawn from their seeds. Where a kind is rare, candidates are
 //! drawn and kept only if they show what the kept ones show too seldom.
 
+pub mod gains;
+
 use crate::{
     FRAME, LSF_GAP, LSFS, MEMORY, PAST, ROW, SHEET, STATE, SUBFRAME, SUBFRAMES, at,
     files::{BROKEN, BYTE_AREA, File, Kind, LAGS, PREVIOUS, SHEET_AREA, from_long},
@@ -989,59 +991,113 @@ pub fn frame_broken(file: &File, random: &mut Random) -> Records {
     frames(file, random, 5, 1, Frames::Broken)
 }
 
-/// The frame call's order of refusals.
-pub const ORDER: [i16; 8] = [1, 5, 2, 6, 3, 4, 16, 17];
-
-/// Every row of the order that a record of `refused.bin` meets, whatever comes before it.
-pub fn refusals(record: &[i16]) -> Vec<i16> {
-    let (sheet, state) = record[2..].split_at(SHEET_AREA);
-    let pitch = sheet[at::PITCH..at::GAINS].iter().enumerate();
-    let last = |subframe: usize| if subframe.is_multiple_of(2) { 255 } else { 31 };
-    let met = [
-        record[0] != SHEET as i16,
-        record[1] != FRAME as i16,
-        sheet[..LSFS].iter().any(|lsf| !(0..=16384).contains(lsf)),
-        first_close(sheet).is_some(),
-        pitch
-            .into_iter()
-            .any(|(subframe, index)| !(0..=last(subframe)).contains(index)),
-        sheet[at::GAINS..at::INNOVATION]
-            .iter()
-            .any(|gain| *gain < 0),
-        !(0..=13017).contains(&state[at::SHARPENING]),
-        state[at::GAIN] < 0,
-    ];
-    let rows = ORDER.into_iter().zip(met);
-    rows.filter_map(|(number, met)| met.then_some(number))
-        .collect()
+/// The calls of a kind of sheet that are refused: the order of their refusals, the numbers of their
+/// sheet, and where it begins in a record of theirs. The counts of the sheet's numbers and of the
+/// output's samples stand first; behind the sheet stand the state and the tables, where there are any.
+pub struct Calls {
+    pub order: &'static [i16],
+    pub numbers: usize,
+    pub sheet: usize,
 }
 
-/// Makes the call of a record meet one row of the order; `way` picks among the ways.
-fn spoil(record: &mut [i16], number: i16, way: usize) {
-    let pick = |values: &[i16]| values[way % values.len()];
-    let state = 2 + SHEET_AREA;
-    match number {
-        1 => {
-            record[0] = pick(&[181, 183, 0, 1, 184]);
-            // Nothing lies after the sheet's end.
-            let end = 2 + record[0] as usize;
-            record[end..state].fill(0);
+pub const FRAME_CALLS: Calls = Calls {
+    order: &[1, 5, 2, 6, 3, 4, 16, 17],
+    numbers: SHEET,
+    sheet: 2,
+};
+
+impl Calls {
+    fn state(&self) -> usize {
+        self.sheet + SHEET_AREA
+    }
+
+    /// Every row of the order that the call of a record meets, whatever comes before it.
+    pub fn refusals(&self, record: &[i16]) -> Vec<i16> {
+        let order = self.order.iter().copied();
+        order.filter(|&row| self.meets(record, row)).collect()
+    }
+
+    fn meets(&self, record: &[i16], row: i16) -> bool {
+        let (sheet, state) = record[self.sheet..].split_at(SHEET_AREA);
+        let mut pitch = sheet[at::PITCH..at::GAINS].iter().zip([255, 31, 255, 31]);
+        match row {
+            1 => record[0] != self.numbers as i16,
+            5 => record[1] != FRAME as i16,
+            2 => sheet[..LSFS].iter().any(|lsf| !(0..=16384).contains(lsf)),
+            6 => first_close(sheet).is_some(),
+            3 => pitch.any(|(index, last)| !(0..=last).contains(index)),
+            4 => sheet[at::GAINS..at::INNOVATION]
+                .iter()
+                .any(|gain| *gain < 0),
+            7 => !gains::are_tables(record, self.state() + STATE),
+            8 => sheet[at::GAINS..at::INDEXED_INNOVATION]
+                .iter()
+                .any(|index| !(0..=127).contains(index)),
+            16 => !(0..=13017).contains(&state[at::SHARPENING]),
+            17 => state[at::GAIN] < 0,
+            _ => unreachable!("no order has such a refusal"),
         }
-        5 => record[1] = pick(&[159, 161, 0, 1, 162]),
-        2 => record[2 + way % LSFS] = pick(&[16385, -1, 32767, -32768, 16386, -2, 20000]),
-        6 => {
-            let above = pick(&[204, 0, -1, 1, 203, -300, 100]);
-            put_above(&mut record[2..], way % LSFS, above);
+    }
+
+    /// Makes the call of a record meet one row of the order; `way` picks among the ways.
+    fn spoil(&self, record: &mut [i16], row: i16, way: usize) {
+        let pick = |values: &[i16]| values[way % values.len()];
+        let (sheet, state) = (self.sheet, self.state());
+        let whole = self.numbers as i16;
+        match row {
+            1 => {
+                record[0] = pick(&[whole - 1, whole + 1, 0, 1, whole + 2, SHEET as i16]);
+                // Nothing lies after the sheet's end.
+                let end = sheet + record[0] as usize;
+                record[end..state].fill(0);
+            }
+            5 => record[1] = pick(&[159, 161, 0, 1, 162]),
+            2 => {
+                record[sheet + way % LSFS] = pick(&[16385, -1, 32767, -32768, 16386, -2, 20000]);
+            }
+            6 => {
+                let above = pick(&[204, 0, -1, 1, 203, -300, 100]);
+                put_above(&mut record[sheet..], way % LSFS, above);
+            }
+            3 => {
+                let subframe = way % SUBFRAMES;
+                let last = if subframe.is_multiple_of(2) { 255 } else { 31 };
+                record[sheet + at::PITCH + subframe] = [last + 1, -1, 32767, -32768, 256][way % 5];
+            }
+            4 => record[sheet + at::GAINS + way % 8] = pick(&[-1, -32768, -2]),
+            7 => gains::spoil_tables(record, state + STATE, way),
+            8 => {
+                let place = sheet + at::GAINS + way % SUBFRAMES;
+                record[place] = pick(&[128, -1, 32767, -32768, 129]);
+            }
+            16 => record[state + at::SHARPENING] = pick(&[13018, -1, 32767, -32768]),
+            17 => record[state + at::GAIN] = pick(&[-1, -32768]),
+            _ => unreachable!("no order has such a refusal"),
         }
-        3 => {
-            let subframe = way % SUBFRAMES;
-            let last = if subframe.is_multiple_of(2) { 255 } else { 31 };
-            record[2 + at::PITCH + subframe] = [last + 1, -1, 32767, -32768, 256][way % 5];
+    }
+
+    /// Each row alone, in so many ways; each pair of rows; and two places of a row, of which the first
+    /// is named.
+    fn spoiled(
+        &self,
+        ways: &[(i16, usize)],
+        twice: &[(i16, [usize; 2])],
+    ) -> Vec<Vec<(i16, usize)>> {
+        let mut calls = Vec::new();
+        for &(row, ways) in ways {
+            calls.extend((0..ways).map(|way| vec![(row, way)]));
         }
-        4 => record[2 + at::GAINS + way % 8] = pick(&[-1, -32768, -2]),
-        16 => record[state + at::SHARPENING] = pick(&[13018, -1, 32767, -32768]),
-        17 => record[state + at::GAIN] = pick(&[-1, -32768]),
-        _ => unreachable!("the order has no such refusal"),
+        for (place, &first) in self.order.iter().enumerate() {
+            for (way, &later) in self.order[place + 1..].iter().enumerate() {
+                // A sheet cut short would lose what the later row looks at.
+                let first_way = if first == 1 { way % 2 } else { way };
+                calls.push(vec![(first, first_way), (later, place + way)]);
+            }
+        }
+        for &(row, [first, second]) in twice {
+            calls.push(vec![(row, first), (row, second)]);
+        }
+        calls
     }
 }
 
@@ -1054,39 +1110,26 @@ pub fn refused(_: &File, random: &mut Random) -> Records {
         record.extend(state);
         record
     };
-    let mut call = |random: &mut Random, spoils: &[(i16, usize)]| {
+    for spoils in FRAME_CALLS.spoiled(
+        &[
+            (1, 5),
+            (5, 5),
+            (2, 10),
+            (6, 20),
+            (3, 10),
+            (4, 8),
+            (16, 4),
+            (17, 2),
+        ],
+        &[(2, [3, 7]), (6, [2, 8]), (3, [1, 3]), (4, [2, 5])],
+    ) {
         let lsf = kept(random);
         let sheet = sheet(random, lsf, Loudness::Speech);
         let mut record = whole(&sheet, &state(random, 3000));
-        for &(number, way) in spoils {
-            spoil(&mut record, number, way);
+        for (row, way) in spoils {
+            FRAME_CALLS.spoil(&mut record, row, way);
         }
         records.push(record);
-    };
-    for (number, ways) in [
-        (1, 5),
-        (5, 5),
-        (2, 10),
-        (6, 20),
-        (3, 10),
-        (4, 8),
-        (16, 4),
-        (17, 2),
-    ] {
-        for way in 0..ways {
-            call(random, &[(number, way)]);
-        }
-    }
-    for (place, &first) in ORDER.iter().enumerate() {
-        for (way, &later) in ORDER[place + 1..].iter().enumerate() {
-            // A sheet cut short would lose what the later row looks at.
-            let first_way = if first == 1 { way % 2 } else { way };
-            call(random, &[(first, first_way), (later, place + way)]);
-        }
-    }
-    // Two places of the same row: the first is named.
-    for (number, ways) in [(2, [3, 7]), (6, [2, 8]), (3, [1, 3]), (4, [2, 5])] {
-        call(random, &[(number, ways[0]), (number, ways[1])]);
     }
     // Sheets that break the gap and nothing else, from states of every kind.
     let frames = frame_broken(&BROKEN, &mut Random::new(BROKEN.seed));

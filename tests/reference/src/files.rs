@@ -1,5 +1,7 @@
 //! The recorded files: what a record holds, how its answers are made, and what the file covers.
 
+pub mod gains;
+
 use crate::{
     FRAME, LSFS, MEMORY, NOWHERE, PAST, ROW, SHEET, STATE, SUBFRAME, SUBFRAMES, at, draw, frame,
     model::{self, Fault, Trace, step},
@@ -77,6 +79,22 @@ impl File {
         self.input_words() + self.answers.iter().map(Field::words).sum::<usize>()
     }
 
+    /// The numbers of a record that have this name.
+    fn numbers<'a>(&self, record: &'a [i16], name: &str) -> Option<&'a [i16]> {
+        let mut fields = self.inputs.iter().chain(self.answers);
+        let place = fields.clone().position(|field| field.name == name)?;
+        let from = fields.by_ref().take(place).map(Field::words).sum::<usize>();
+        Some(&record[from..from + fields.next()?.words()])
+    }
+
+    /// Whether the second record goes on from the state, and from the energies where there are any,
+    /// that the first leaves.
+    pub fn is_chained(&self, pair: &[Vec<i16>]) -> bool {
+        let [before, after] = pair else { return false };
+        let goes_on = |left, taken| self.numbers(before, left) == self.numbers(after, taken);
+        goes_on("next state", "state") && goes_on("energies after", "energies")
+    }
+
     /// The whole file.
     pub fn bytes(&self) -> Vec<u8> {
         let mut random = Random::new(self.seed);
@@ -89,6 +107,30 @@ impl File {
             bytes.extend(record.iter().flat_map(|word| word.to_le_bytes()));
         }
         bytes
+    }
+
+    /// The table of its fields, in Markdown.
+    pub fn layout(&self) -> String {
+        let length = self.record_words();
+        let mut text = format!(
+            "### {}\n\nSeed {}; {length} words a record.\n\n| words | meaning | |\n|---|---|---|\n",
+            self.name, self.seed
+        );
+        let mut at = 0;
+        for (fields, side) in [(self.inputs, "input"), (self.answers, "answer")] {
+            for field in fields {
+                let (first, last) = (at, at + field.words() - 1);
+                at = last + 1;
+                let place = if first == last {
+                    first.to_string()
+                } else {
+                    format!("{first}..{last}")
+                };
+                let wide = if field.long { ", 32 bits" } else { "" };
+                text += &format!("| {place} | {}{wide} | {side} |\n", field.name);
+            }
+        }
+        text + "\n"
     }
 
     /// A file's records, where its length is a whole number of them.
@@ -107,30 +149,7 @@ impl File {
 
 /// The tables of the files, as `tests/vectors/README.md` has them.
 pub fn layout() -> String {
-    let mut text = String::new();
-    for file in &FILES {
-        let length = file.record_words();
-        text += &format!(
-            "### {}\n\nSeed {}; {length} words a record.\n\n| words | meaning | |\n|---|---|---|\n",
-            file.name, file.seed
-        );
-        let mut at = 0;
-        for (fields, side) in [(file.inputs, "input"), (file.answers, "answer")] {
-            for field in fields {
-                let (first, last) = (at, at + field.words() - 1);
-                at = last + 1;
-                let place = if first == last {
-                    first.to_string()
-                } else {
-                    format!("{first}..{last}")
-                };
-                let wide = if field.long { ", 32 bits" } else { "" };
-                text += &format!("| {place} | {}{wide} | {side} |\n", field.name);
-            }
-        }
-        text += "\n";
-    }
-    text
+    FILES.iter().map(File::layout).collect()
 }
 
 pub fn find(name: &str) -> Option<&'static File> {
@@ -154,7 +173,7 @@ pub const SHEET_AREA: usize = 184;
 /// Bytes of the record in `record_read.bin`.
 pub const BYTE_AREA: usize = 420;
 
-pub static FILES: [File; 17] = [
+pub static FILES: [File; 21] = [
     File {
         name: "lsp.bin",
         seed: 101,
@@ -693,27 +712,19 @@ pub static FILES: [File; 17] = [
                 _ => {}
             }
             // Which later rows of the order the call meets too.
-            let meets = draw::refusals(input);
-            for later in meets.into_iter().filter(|&later| later != answer.refusal) {
-                trace.number("refusal before a later one", 100 * answer.refusal + later);
+            for later in draw::FRAME_CALLS.refusals(input) {
+                if later != answer.refusal {
+                    trace.number("refusal before a later one", 100 * answer.refusal + later);
+                }
             }
             vec![answer.refusal, answer.place]
         },
         kinds: || {
-            let order = draw::ORDER;
-            let pairs = (0..order.len())
-                .flat_map(|first| (first + 1..order.len()).map(move |later| (first, later)))
-                .map(|(first, later)| 100 * order[first] + order[later]);
-            let mut kinds = vec![
-                Kind::Each("refusal", order.to_vec()),
+            let mut kinds = refused_kinds(&draw::FRAME_CALLS);
+            kinds.extend([
                 Kind::Each("refusal 1: length", vec![0, 1, 181, 183, 184]),
-                Kind::Each("refusal 2: place", (0..10).collect()),
-                Kind::Each("refusal 3: place", (0..4).collect()),
                 Kind::Each("refusal 4: place", (0..8).collect()),
-                Kind::Each("refusal 5: length", vec![0, 1, 159, 161, 162]),
-                Kind::Each("refusal 6: place", (0..10).collect()),
-                Kind::Each("refusal before a later one", pairs.collect()),
-            ];
+            ]);
             kinds.extend(ones(&BROKEN_KINDS));
             kinds.push(Kind::One("first LSF 0"));
             kinds
@@ -814,7 +825,27 @@ pub static FILES: [File; 17] = [
         published: false,
         faults: &[],
     },
+    gains::DECODE,
+    gains::REFUSED,
+    gains::FRAME_INDEXED,
+    gains::REFUSED_INDEXED,
 ];
+
+/// What the refused calls of both kinds of sheet show.
+fn refused_kinds(calls: &draw::Calls) -> Vec<Kind> {
+    let order = calls.order;
+    let pairs = (0..order.len())
+        .flat_map(|first| (first + 1..order.len()).map(move |later| (first, later)))
+        .map(|(first, later)| 100 * order[first] + order[later]);
+    vec![
+        Kind::Each("refusal", order.to_vec()),
+        Kind::Each("refusal 2: place", (0..10).collect()),
+        Kind::Each("refusal 3: place", (0..4).collect()),
+        Kind::Each("refusal 5: length", vec![0, 1, 159, 161, 162]),
+        Kind::Each("refusal 6: place", (0..10).collect()),
+        Kind::Each("refusal before a later one", pairs.collect()),
+    ]
+}
 
 /// Not a file: frames whose LSFs break the gap, searched for what a decoder that does not test it
 /// would do with them. Each is a refused call of `refused.bin`.

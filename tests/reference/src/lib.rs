@@ -1,6 +1,6 @@
 //! The published Rust of the MR74 sample path as a reference: its stages one by one, the frame
-//! call built from them, and the recorded answers that they give.
-// Three files of ours stand in both trees of published modules.
+//! calls built from them, and the recorded answers that they give.
+// Three files of ours stand in each tree of published modules.
 #![allow(clippy::duplicate_mod)]
 
 /// The published modules as `build.rs` leaves them, and four of ours among them.
@@ -26,6 +26,20 @@ pub mod indexed {
     pub mod state;
 }
 
+/// The same modules with the gain decoder as published and its tables lent, for index sheets.
+#[allow(dead_code, unused, clippy::all)]
+pub mod lent {
+    include!(concat!(env!("OUT_DIR"), "/lent/mr74/mod.rs"));
+    #[path = "../mr74/places.rs"]
+    pub mod places;
+    #[path = "../mr74/sheet.rs"]
+    pub mod sheet;
+    pub mod stages;
+    #[path = "../mr74/state.rs"]
+    pub mod state;
+    pub mod tables;
+}
+
 pub mod agree;
 pub mod bench;
 pub mod coverage;
@@ -34,6 +48,7 @@ pub mod draw;
 pub mod examples;
 pub mod files;
 pub mod frame;
+pub mod gain;
 pub mod model;
 pub mod program;
 pub mod random;
@@ -54,6 +69,8 @@ pub const SUBFRAMES: usize = 4;
 pub const FRAME: usize = SUBFRAME * SUBFRAMES;
 pub const PAST: usize = 154;
 pub const SHEET: usize = 182;
+/// The sheet that has indices of gains, four for the eight gains.
+pub const INDEX_SHEET: usize = 178;
 pub const STATE: usize = 197;
 /// The postfilter's part of the state: input, output, residual, smoothed gain.
 pub const MEMORY: usize = 22;
@@ -68,10 +85,12 @@ pub fn flag(place: i16) -> i16 {
 
 /// Where the parts of the sheet and of the state begin.
 pub mod at {
-    // The sheet; its LSFs begin at 0.
+    // Both sheets; their LSFs begin at 0. What stands for the gains are gains or their indices.
     pub const PITCH: usize = 10;
     pub const GAINS: usize = 14;
     pub const INNOVATION: usize = 22;
+    /// The index sheet's.
+    pub const INDEXED_INNOVATION: usize = 18;
     // The state; its previous LSPs begin at 0.
     pub const PAST: usize = 10;
     pub const SHARPENING: usize = 164;

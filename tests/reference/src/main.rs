@@ -25,7 +25,7 @@ reference replay PROGRAM DIR
 reference layout         the tables of the files, in Markdown
 reference agree FRAMES SEED
                          the second decoder against the reference: FRAMES random accepted frames,
-                         every LSF, lag and argument of the inverse root
+                         index frames and gains, every LSF, lag and argument of the inverse root
 reference bench          the bench program's lines for standard input
 reference report         the shift report's line for standard input
 reference bench BENCH REPORT

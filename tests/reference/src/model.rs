@@ -1,8 +1,10 @@
 //! The sample path once more, in whole numbers, from the operators of TS 26.073. It says which
 //! steps were held at a limit, and with a fault put in it stands for a decoder that is wrong:
 //! the coverage counts what it saw, and the recorded answers that tell it from the reference.
-//! It brings no answer into the recorded files. The cosine and the interpolation table are read
-//! off the reference's answers; everything else is its own.
+//! It brings no answer into the recorded files. The cosine, the interpolation and the gain table are
+//! read off the reference's answers; everything else is its own.
+
+pub mod gains;
 
 use crate::{
     FRAME, LSFS, NOWHERE, PAST, ROW, STATE, SUBFRAME, SUBFRAMES, at, flag,
@@ -61,6 +63,20 @@ faults! {
     TiltFromChanged: "tilt reads the changed residual",
     SmoothingTowardZero: "smoothed gain rounded up",
     GainKept: "smoothed gain kept through silence",
+    GainsUnsharpened: "gains from the unsharpened innovation",
+    GainsByOwnSharpening: "gains from innovation sharpened by the subframe's own gain",
+    GainsSharpeningNotHeld: "gains from innovation sharpened by a gain not held to 13017",
+    EnergyNotEntered: "the row's energy not entered",
+    EnergyEnteredLast: "the row's energy entered last",
+    Factor5443: "predicted gain by 5443",
+    PredictorExchanged: "two predictor taps exchanged",
+    PredictorUnclamped: "no clamp between the predictor's sums",
+    SquaresAsEnergy: "squares summed as an energy is",
+    LogBase: "logarithm's table index from base 31",
+    LogTowardZero: "logarithm's product toward zero",
+    PowerTimes16: "power's fraction times 16",
+    PowerNotRounded: "power not rounded",
+    CodeGainWraps: "code gain shifted up without a clamp",
 }
 
 /// What a run of the model saw, and the fault it was given.
@@ -319,6 +335,7 @@ pub fn predict(trace: &mut Trace, past: &[i16; PAST], (samples, thirds): Lag) ->
 
 fn sharpen(trace: &mut Trace, innovation: &mut [i16; SUBFRAME], lag: i16, sharpening: i16) {
     let plain = *innovation;
+    let doubled = clamp16(2 * wide(sharpening));
     let lag = lag as usize;
     trace.mark_if(lag < SUBFRAME && sharpening > 0, "innovation sharpened");
     for sample in lag..SUBFRAME {
@@ -327,7 +344,7 @@ fn sharpen(trace: &mut Trace, innovation: &mut [i16; SUBFRAME], lag: i16, sharpe
         } else {
             innovation[sample - lag]
         };
-        let product = wide(earlier) * 2 * wide(sharpening);
+        let product = wide(earlier) * doubled;
         let sum = wide(innovation[sample]) + trace.down(product, 15, Fault::SharpeningTowardZero);
         trace.mark_if(clamp16(sum) != sum, "sharpened innovation clamped");
         innovation[sample] = if trace.has(Fault::SharpeningWraps) {

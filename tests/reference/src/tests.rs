@@ -1,8 +1,14 @@
 use crate::{
-    FRAME, LSF_GAP, LSFS, NOWHERE, ROW, SHEET, STATE, SUBFRAME, SUBFRAMES, at, draw,
+    FRAME, INDEX_SHEET, LSF_GAP, LSFS, NOWHERE, ROW, SHEET, STATE, SUBFRAME, SUBFRAMES, at, draw,
     files::{self, FILES},
-    frame::frame,
+    frame::{frame, frame_indexed},
+    gain::{self, OPENING, TABLE},
     indexed::source::{self, Source},
+    lent::{self, tables},
+    model::{
+        Trace,
+        gains::{self, Steps},
+    },
     mr74::stages,
     part,
     random::Random,
@@ -182,6 +188,151 @@ fn sheets_stand_for_indices() {
         assert_eq!(answer.state, wanted.state);
         state = answer.state;
     }
+}
+
+/// The steps of a code gain, each with its least and its greatest number; no step may clamp but the
+/// sum of squares, the four sums and the left shift.
+fn ranges(steps: &Steps) -> Vec<(&'static str, i64, i64, i64)> {
+    let [a, b, c] = steps.scaled;
+    let [gain, by_factor, scaled] = steps.predicted;
+    let power = &steps.power;
+    let mut ranges = vec![
+        ("squares", steps.squares, 0, 2147483647),
+        ("Mpy_32_16", a, -1528920, 0),
+        ("with the mean energy", b, 556712, 2085632),
+        ("times 1024", c, 570073088, 2135687168),
+        ("last sum", steps.sums[3], -390881280, 2147483647),
+        ("predicted gain", gain, -5965, 32767),
+        ("times 5439", by_factor, -64887270, 356439426),
+        (">> 8", scaled, -253466, 1392341),
+        ("exponent", steps.exponent, -4, 21),
+        ("fraction", steps.fraction, 0, 32766),
+        ("power's index", power.between.index, 0, 31),
+        ("power's fraction", power.between.fraction, 0, 32736),
+        ("power between", power.between.value, 0, 2147418112),
+        ("power", power.value, 0, 32767),
+        ("correction by power", steps.product, 0, 2147155976),
+        ("shift", steps.shift, -11, 14),
+        ("shifted", steps.shifted, 0, 2147483647),
+        ("code gain", steps.code, 0, 32767),
+    ];
+    ranges.extend(steps.sums.map(|sum| ("sum", sum, -390881280, 2147483647)));
+    if let Some(log) = &steps.log {
+        ranges.extend([
+            ("norm", log.norm, 0, 29),
+            ("logarithm's index", log.between.index, 0, 31),
+            ("logarithm's fraction", log.between.fraction, 0, 32767),
+            ("logarithm between", log.between.value, 0, 2147418112),
+            ("exponent of the logarithm", log.exponent, 1, 30),
+            ("fraction of the logarithm", log.fraction, 0, 32767),
+        ]);
+    }
+    ranges
+}
+
+/// By the standard's tables and the opening energies an index sheet is decoded as the published
+/// decoder decodes the indices, and as the sheet of the gains that they come to.
+#[test]
+fn index_sheets_stand_for_indices() {
+    let mut random = Random::new(77);
+    let tables = tables::standard();
+    let (mut state, mut energies) = ([0; STATE], OPENING);
+    let mut source = Source::new(&state);
+    for _ in 0..500 {
+        let lsf = draw::kept(&mut random);
+        let indices = source::indices(&mut random);
+        let sheet = source.sheet(&lsf, &indices);
+        let mut index_sheet = [0; INDEX_SHEET];
+        index_sheet[..at::GAINS].copy_from_slice(&sheet[..at::GAINS]);
+        for (number, subframe) in index_sheet[at::GAINS..].iter_mut().zip(indices.subframes()) {
+            *number = subframe.gain_index as i16;
+        }
+        index_sheet[at::INDEXED_INNOVATION..].copy_from_slice(&sheet[at::INNOVATION..]);
+        let gains = lent::stages::frame_gains(&index_sheet, &state, &tables, &energies);
+        assert_eq!(gains.as_flattened(), &sheet[at::GAINS..at::INNOVATION]);
+        let mut out = [0; FRAME];
+        let lent = (&tables).into();
+        let answer = frame_indexed(&index_sheet, &state, lent, &energies, &mut out);
+        let wanted = source.decode(&sheet, &indices);
+        assert_eq!(answer.frame.refusal, 0);
+        assert_eq!(out, wanted.samples);
+        assert_eq!(answer.frame, frame(&sheet, &state, &mut out));
+        assert_eq!(out, wanted.samples);
+        (state, energies) = (answer.frame.state, answer.energies);
+    }
+}
+
+/// Table, innovation and energies of any kind: the second decoder's steps lie where the papers have
+/// them, and its gains are the source's.
+#[test]
+fn gain_steps_keep_their_ranges() {
+    let mut random = Random::new(78);
+    let mut trace = Trace::default();
+    for _ in 0..20_000 {
+        let index = random.word(0, 127);
+        let innovation = draw::gains::sharpened(&mut random);
+        let tables = draw::gains::tables(&mut random);
+        let energies = draw::gains::energies(&mut random);
+        let correction = i64::from(gains::rows()[index as usize][1]);
+        let steps = gains::steps(&mut trace, correction, &innovation, &tables, &energies);
+        for (name, number, low, high) in ranges(&steps) {
+            assert!((low..=high).contains(&number), "{name} {number}: {steps:?}");
+        }
+        assert!(steps.squares % 2 == 0 || steps.squares == 2147483647);
+        let (gains, _) = gains::gains(&mut trace, index, &innovation, &tables, &energies);
+        let wanted = gain::decode(index, &innovation, (&tables).into(), &energies);
+        assert_eq!(gains, [wanted.pitch, wanted.code], "{steps:?}");
+    }
+}
+
+#[test]
+fn refused_index_calls_change_nothing() {
+    let mut state = [7; STATE];
+    let mut out = [5; FRAME];
+    let mut sheet = [0; INDEX_SHEET];
+    for (lsf, number) in sheet[..LSFS].iter_mut().zip(1..) {
+        *lsf = LSF_GAP * number;
+    }
+    let mut pair = tables::standard();
+    let energies = [1, 2, 3, 4];
+    let mut refused = |sheet: &[i16], state: &[i16; STATE], pair: &tables::Pair, room: usize| {
+        let out = &mut out[..room];
+        let answer = frame_indexed(sheet, state, pair.into(), &energies, out);
+        assert!(out.iter().all(|&sample| sample == 5));
+        assert_eq!(answer.energies, energies);
+        assert_eq!(answer.frame.state, *state);
+        assert_eq!(answer.frame.places, [40; SUBFRAMES]);
+        assert_eq!(answer.frame.rows, [[0; ROW]; SUBFRAMES]);
+        (answer.frame.refusal, answer.frame.place)
+    };
+    state[at::GAIN] = -1;
+    assert_eq!(refused(&sheet, &state, &pair, FRAME), (17, 0));
+    state[at::SHARPENING] = 13018;
+    assert_eq!(refused(&sheet, &state, &pair, FRAME), (16, 0));
+    sheet[at::GAINS + 3] = 128;
+    assert_eq!(refused(&sheet, &state, &pair, FRAME), (8, 3));
+    pair[1][32] = pair[1][31] - 1;
+    assert_eq!(refused(&sheet, &state, &pair, FRAME), (7, 1));
+    pair[0] = [0; TABLE];
+    assert_eq!(refused(&sheet, &state, &pair, FRAME), (7, 1));
+    pair[0][0] = -1;
+    assert_eq!(refused(&sheet, &state, &pair, FRAME), (7, 0));
+    sheet[at::PITCH + 1] = 32;
+    assert_eq!(refused(&sheet, &state, &pair, FRAME), (3, 1));
+    sheet[1] = 409;
+    assert_eq!(refused(&sheet, &state, &pair, FRAME), (6, 1));
+    sheet[9] = -1;
+    assert_eq!(refused(&sheet, &state, &pair, FRAME), (2, 9));
+    assert_eq!(refused(&sheet, &state, &pair, FRAME - 1), (5, 0));
+    assert_eq!(refused(&sheet[1..], &state, &pair, FRAME - 1), (1, 0));
+    assert_eq!(refused(&[0; SHEET], &state, &pair, FRAME), (1, 0));
+    let decoded = gain::decode(128, &[0; SUBFRAME], (&pair).into(), &energies);
+    assert_eq!((decoded.refusal, decoded.place), (7, 0));
+    let standard = tables::standard();
+    let decoded = gain::decode(-1, &[0; SUBFRAME], (&standard).into(), &energies);
+    assert_eq!((decoded.refusal, decoded.place), (8, 0));
+    assert_eq!((decoded.pitch, decoded.code), (0, 0));
+    assert_eq!(decoded.energies, energies);
 }
 
 #[test]

@@ -1,9 +1,16 @@
-//! Document 01's "Values to hold" and its listing of the bench program, and lines of sheets that
-//! keep the gap and break it, against the reference.
+//! Document 01's "Values to hold" and its listing of the bench program, lines of sheets that keep the
+//! gap and break it, and gains of indices, against the reference.
 
 use crate::{
-    LSF_GAP, LSFS, NOWHERE, ROW, SHEET, SUBFRAME, at, bench,
+    FRAME, INDEX_SHEET, LSF_GAP, LSFS, NOWHERE, ROW, SHEET, STATE, SUBFRAME, SUBFRAMES, at, bench,
+    frame,
+    gain::{self, ENERGIES, OPENING, TABLE},
+    lent::{
+        self,
+        tables::{self, Pair},
+    },
     mr74::stages::{self, Lag},
+    part,
     program::bytes_of,
     record,
     tally::Tally,
@@ -26,6 +33,8 @@ fn lag(tally: &mut Tally, what: &str, got: Lag, wanted: Lag) {
 pub fn run() -> bool {
     let mut tally = Tally::default();
     hold(&mut tally);
+    gains(&mut tally);
+    index_frame(&mut tally);
     listing(&mut tally);
     tally.end()
 }
@@ -88,6 +97,138 @@ fn hold(tally: &mut Tally) {
         let what = format!("synthesis, row 4096 -4096, excitation 32767 {second}: place");
         same(tally, &what, got, wanted);
     }
+}
+
+/// The gains and the energies afterwards of an index and an innovation, zero but for these numbers.
+fn decoded(
+    index: i16,
+    numbers: &[(usize, i16)],
+    tables: &Pair,
+    energies: &[i16; ENERGIES],
+) -> (i16, i16, [i16; ENERGIES]) {
+    let mut innovation = [0; SUBFRAME];
+    for &(place, number) in numbers {
+        innovation[place] = number;
+    }
+    let answer = gain::decode(index, &innovation, tables.into(), energies);
+    assert_eq!(answer.refusal, 0);
+    (answer.pitch, answer.code, answer.energies)
+}
+
+/// With the standard's tables, and with a power table all of one number.
+fn gains(tally: &mut Tally) {
+    let standard = tables::standard();
+    let powers = |power| [standard[0], [power; TABLE]];
+    let all: Vec<(usize, i16)> = (0..SUBFRAME).map(|place| (place, 32767)).collect();
+    let pulses = [(0, 8191), (10, 8191), (21, -8192), (37, -8192)];
+    let low = [32767, -32768, -32768, -32768];
+    let enters = |energy| [energy, OPENING[0], OPENING[1], OPENING[2]];
+    for (name, index, numbers, tables, energies, wanted) in [
+        (
+            "40, sample 6",
+            40,
+            &[(0, 6)][..],
+            standard,
+            OPENING,
+            (10177, 28790, enters(-454)),
+        ),
+        (
+            "0, zeros",
+            0,
+            &[],
+            standard,
+            OPENING,
+            (577, 32767, enters(-16214)),
+        ),
+        (
+            "64, four pulses",
+            64,
+            &pulses,
+            standard,
+            OPENING,
+            (13899, 4, enters(-7921)),
+        ),
+        (
+            "0, forty 32767",
+            0,
+            &all,
+            standard,
+            OPENING,
+            (577, 0, enters(-16214)),
+        ),
+        (
+            "10, 100 -100, energies 1000 2000 3000 4000",
+            10,
+            &[(0, 100), (1, -100)],
+            standard,
+            [1000, 2000, 3000, 4000],
+            (3451, 26125, [-2490, 1000, 2000, 3000]),
+        ),
+        (
+            "10, 100 -100, energies 4000 3000 2000 1000",
+            10,
+            &[(0, 100), (1, -100)],
+            standard,
+            [4000, 3000, 2000, 1000],
+            (3451, 31667, [-2490, 4000, 3000, 2000]),
+        ),
+        (
+            "0, zeros, energies 32767 -32768 -32768 -32768, powers 1000",
+            0,
+            &[],
+            powers(1000),
+            low,
+            (577, 646, [-16214, 32767, -32768, -32768]),
+        ),
+        (
+            "127, sample 100, powers 0",
+            127,
+            &[(0, 100)],
+            powers(0),
+            OPENING,
+            (18842, 0, enters(18494)),
+        ),
+    ] {
+        let got = decoded(index, numbers, &tables, &energies);
+        same(tally, &format!("gains of index {name}"), got, wanted);
+    }
+}
+
+/// An index sheet that shows, from the all-zero state, gains from innovation that is not sharpened, or
+/// by another gain or one not held to 13017, from energies that do not enter, or by 5443.
+pub fn index_sheet() -> [i16; INDEX_SHEET] {
+    let mut sheet = [0; INDEX_SHEET];
+    for (lsf, number) in sheet[..LSFS].iter_mut().zip(1..) {
+        *lsf = 1400 * number;
+    }
+    sheet[at::PITCH..at::GAINS].copy_from_slice(&[4, 6, 18, 22]);
+    sheet[at::GAINS..at::INDEXED_INNOVATION].copy_from_slice(&[121, 63, 92, 78]);
+    for subframe in 1..SUBFRAMES {
+        sheet[at::INDEXED_INNOVATION + SUBFRAME * subframe] = 2000;
+    }
+    sheet
+}
+
+fn index_frame(tally: &mut Tally) {
+    let sheet = index_sheet();
+    let tables = tables::standard();
+    let mut out = [0; FRAME];
+    let lent = (&tables).into();
+    let answer = frame::frame_indexed(&sheet, &[0; STATE], lent, &OPENING, &mut out);
+    let gains = lent::stages::frame_gains(&sheet, &[0; STATE], &tables, &OPENING);
+    let wanted = [[21318, 32767], [10300, 1413], [14406, 5278], [13714, 13485]];
+    same(tally, "index frame: gains", gains, wanted);
+    let energies = [9221, 7413, 12853, 5816];
+    same(tally, "index frame: energies", answer.energies, energies);
+    let places = answer.frame.places;
+    same(tally, "index frame: places", places, [NOWHERE; SUBFRAMES]);
+    let samples = part(&out, SUBFRAME);
+    same(
+        tally,
+        "index frame: samples 40, ..",
+        samples,
+        [8, 6, -100, -56],
+    );
 }
 
 fn zero_record() -> Vec<u8> {

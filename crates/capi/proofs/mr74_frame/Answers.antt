@@ -6,7 +6,7 @@ use Rattle.decoder.proofs.Results.{Held}
 use Rattle.capi.specs.Capi.{state_in, sheet_in, room_in}
 use Rattle.capi.proofs.Codes.{frame_place}
 use Rattle.capi.proofs.Buffers.{frame_bytes_lem}
-use Rattle.capi.proofs.Calls.{state_unfit, rows_unfit, places_unfit, frame_given}
+use Rattle.capi.proofs.Calls.{state_unfit, rows_unfit, places_unfit, frame_left, frame_given}
 use Rattle.capi.proofs.mr74_frame.Goals as goal
 
 pub returns-in_default : goal.returns-in_default
@@ -35,4 +35,7 @@ returns c =
     let a = c.args in
     let s = c.in-Some.ensures.cases in
     let g = c.give.ensures in
-    frame_given a.sheet.now a.state.now a.out.now a.rows.now a.places.now s.long c.in-Some-as_mut_array.ensures.cases.long c.in-Some-as_mut_array-2.ensures.cases.long (c.state_in.ensures ∙ ap state_in s.same) (c.frame_out-answer.ensures.value, c.frame_out-answer.ensures.out_after) g.value g.state_after g.rows_after g.places_after
+    let t = c.frame_out-answer.ensures in
+    frame_given a.sheet.now a.state.now a.out.now a.rows.now a.places.now s.long c.in-Some-as_mut_array.ensures.cases.long c.in-Some-as_mut_array-2.ensures.cases.long
+    (c.state_in.ensures ∙ ap state_in s.same)
+    (frame_left _ _ t.value t.out_after g.value g.state_after g.rows_after g.places_after)

@@ -3,7 +3,7 @@
 //! `ExcitationDecoder` sharpened. The LSFs are the sheet's: the quantiser's tables were not given.
 #![warn(unused, clippy::all)]
 
-use super::{Parameters, WIDTHS, decoder::Decoder, places, postfilter::Postfilter, sheet, state};
+use super::{Parameters, WIDTHS, decoder::Decoder, postfilter::Postfilter, sheet, state};
 use crate::{LSFS, SHEET, STATE, SUBFRAME, at, mr74::stages::Decoded, part, random::Random};
 
 /// Any indices.
@@ -49,15 +49,6 @@ impl Source {
     /// The next frame, from the indices; of the sheet the LSFs alone are read.
     pub fn decode(&mut self, sheet: &[i16; SHEET], indices: &Parameters) -> Decoded {
         sheet::set(sheet);
-        let frame = self.decoder.decode_good(indices);
-        let mut samples = frame.samples_q0;
-        self.postfilter
-            .process(&mut samples, &frame.coefficients_q12);
-        Decoded {
-            samples,
-            places: places::of_frame(&frame),
-            rows: frame.coefficients_q12,
-            state: state::numbers(&self.decoder, &state::memory(&self.postfilter)),
-        }
+        state::decoded(&mut self.decoder, &mut self.postfilter, indices)
     }
 }

@@ -175,17 +175,6 @@ pub fn decode(sheet: &[i16; SHEET], state: &[i16; STATE]) -> Decoded {
     let parameters = Parameters::try_new(values).expect("the sheet's pitch indices were tested");
     sheet::set(sheet);
 
-    let mut decoder = state::decoder(state);
-    let frame = decoder.decode_good(&parameters);
-    let (samples, memory) = postfilter(
-        &part(state, at::MEMORY),
-        &frame.samples_q0,
-        &frame.coefficients_q12,
-    );
-    Decoded {
-        samples,
-        places: places::of_frame(&frame),
-        rows: frame.coefficients_q12,
-        state: state::numbers(&decoder, &memory),
-    }
+    let mut postfilter = state::postfilter(&part(state, at::MEMORY));
+    state::decoded(&mut state::decoder(state), &mut postfilter, &parameters)
 }

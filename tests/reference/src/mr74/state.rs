@@ -1,10 +1,11 @@
-//! The numbers of a state put into the published structs, and taken from them.
+//! The numbers of a state put into the published structs, and taken from them; a frame between.
 #![warn(unused, clippy::all)]
 
 use super::{
-    decoder::Decoder, energy::GainControl, postfilter::Postfilter, synthesis::SynthesisFilter,
+    Parameters, decoder::Decoder, energy::GainControl, places, postfilter::Postfilter,
+    synthesis::SynthesisFilter,
 };
-use crate::{LSFS, MEMORY, STATE, at, part};
+use crate::{LSFS, MEMORY, STATE, at, mr74::stages::Decoded, part};
 
 /// Fields 0..=174; all else is as after a reset.
 pub fn decoder(state: &[i16; STATE]) -> Decoder {
@@ -47,4 +48,21 @@ pub fn numbers(decoder: &Decoder, memory: &[i16; MEMORY]) -> [i16; STATE] {
     state[at::HISTORY..at::MEMORY].copy_from_slice(&decoder.synthesis.history_q0);
     state[at::MEMORY..].copy_from_slice(memory);
     state
+}
+
+/// The next frame; the postfilter goes over the decoder's samples.
+pub fn decoded(
+    decoder: &mut Decoder,
+    postfilter: &mut Postfilter,
+    parameters: &Parameters,
+) -> Decoded {
+    let frame = decoder.decode_good(parameters);
+    let mut samples = frame.samples_q0;
+    postfilter.process(&mut samples, &frame.coefficients_q12);
+    Decoded {
+        samples,
+        places: places::of_frame(&frame),
+        rows: frame.coefficients_q12,
+        state: numbers(decoder, &memory(postfilter)),
+    }
 }

@@ -8,14 +8,14 @@ use Rattle.lists.proofs.Entries.{stretch_length}
 use Rattle.mr74.proofs.checks.check_lsfs.Goals as goal
 
 pub returns-in-Some : goal.returns-in-Some
-returns-in-Some c = place_met Lsf _ 10 _ (stretch_length c.args.sheet.now 0 10 (omega (arith, c.told-sheet))) c.in-Some.ensures
+returns-in-Some c = place_met Lsf _ 10 _ (stretch_length c.args.sheet.now 0 10 (omega (arith, c.requires))) c.in-Some.ensures
 
 pub returns-in-Some-first_close : goal.returns-in-Some-first_close
 returns-in-Some-first_close c =
-    let ten = stretch_length c.args.sheet.now 0 10 (omega (arith, c.told-sheet)) in
+    let ten = stretch_length c.args.sheet.now 0 10 (omega (arith, c.requires)) in
     place_met LsfGap _ 10 [] ten c.in-Some-first_close.ensures ∙ place_unmet Lsf _ 10 _ ten c.in_default.ensures
 
 pub returns : goal.returns
 returns c =
-    let ten = stretch_length c.args.sheet.now 0 10 (omega (arith, c.told-sheet)) in
+    let ten = stretch_length c.args.sheet.now 0 10 (omega (arith, c.requires)) in
     none_left ∙ place_unmet LsfGap _ 10 [] ten c.in_default-first_close.ensures ∙ place_unmet Lsf _ 10 _ ten c.in_default.ensures

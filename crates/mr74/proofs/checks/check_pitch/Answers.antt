@@ -8,7 +8,7 @@ use Rattle.lists.proofs.Entries.{stretch_length}
 use Rattle.mr74.proofs.checks.check_pitch.Goals as goal
 
 pub returns-in-Some : goal.returns-in-Some
-returns-in-Some c = place_met PitchIndex _ 4 [] (stretch_length c.args.sheet.now 10 4 (omega (arith, c.told-sheet))) c.in-Some.ensures
+returns-in-Some c = place_met PitchIndex _ 4 [] (stretch_length c.args.sheet.now 10 4 (omega (arith, c.requires))) c.in-Some.ensures
 
 pub returns : goal.returns
-returns c = none_left ∙ place_unmet PitchIndex _ 4 [] (stretch_length c.args.sheet.now 10 4 (omega (arith, c.told-sheet))) c.in_default.ensures
+returns c = none_left ∙ place_unmet PitchIndex _ 4 [] (stretch_length c.args.sheet.now 10 4 (omega (arith, c.requires))) c.in_default.ensures

@@ -1,0 +1,112 @@
+-- The index calls of specs/Indexed.antt: the gains computed from the definition, the frame itself stays shut; `indexed_is_frame`, `accepted_indexed` and
+-- `demand_3`, applied. Assumes nothing.
+use mathlib.Core.Path.{◌≡◌, refl, ap}
+use mathlib.Core.Bool.{true, false}
+use mathlib.Core.List.{◌∷◌}
+use lib.Dec.{lit<}
+use Rattle.std.specs.Prelude.{Ok}
+use Rattle.lists.specs.Lists.{iter}
+use Rattle.basicop.specs.Ops.{clamp, asr, wrap, add, sub, mult, shl, l_add, l_sub, l_mult, l_shl, l_shr_r, l_deposit_h, doublings, norm_l, l_extract, mpy_32_16}
+use Rattle.pitch.specs.Lag.{absolute, lag_min, relative}
+use Rattle.excitation.specs.Excitation.{sharpened, sharpening}
+use Rattle.energy.specs.Energy.{squares}
+use Rattle.outcome.specs.Outcome.{is_accepted}
+use Rattle.outcome.specs.Checks.{first_met, first_outside, first_close}
+use Rattle.state.specs.Layout.{core_of, post_of, state_of}
+use Rattle.logarithm.specs.Log2.{log2}
+use Rattle.logarithm.specs.Pow2.{pow2}
+use Rattle.gain_table.specs.Rows.{gain_table, gain_row}
+use Rattle.gain.specs.Gain.{predicted_gain, code_gain, decoded_gains}
+use Rattle.gain.specs.Call.{opening_energies}
+use Rattle.gain.specs.Checks.{is_table}
+use Rattle.mr74.specs.Checks.{indexed_outcome, call_outcome}
+use Rattle.mr74.specs.declared.FrameAnswer.{FrameAnswer}
+use Rattle.mr74.specs.Frame.{frame_call}
+use Rattle.mr74.specs.Indexed.{decoded_sheet, indexed_inputs, indexed_trace, indexed_call, SameAsFrame}
+use Rattle.mr74.proofs.IndexPassed.{accepted_indexed}
+use Rattle.mr74.proofs.Indexed.{indexed_is_frame}
+use Rattle.calls.specs.Calls.{run_calls, any_accepted, accepted}
+use Rattle.demand3.specs.Measure.{Machine}
+use Rattle.demand3.specs.Demand3.{Demand3}
+use Rattle.demand3.proofs.Demand3.{demand_3}
+use Rattle.applied.specs.Examples.{silent}
+use Rattle.applied.specs.Gains.{log_table, pow_table}
+use Rattle.applied.specs.Indexed.{index_sheet, out, indexed, gains_sheet, energies_left, IndexedValues, IndexedApplied, index_ordered, IndexOrder, index_calls, first, second, IndexedDemand3}
+use Rattle.applied.proofs.Examples.{example}
+
+index_accepted : indexed_outcome log_table pow_table index_sheet silent 160 ≡ Ok tt
+unfolding silent index_sheet log_table pow_table state_of core_of post_of first_met first_outside first_close is_table call_outcome
+index_accepted = refl
+
+sheet_is : decoded_sheet log_table pow_table opening_energies index_sheet silent ≡ gains_sheet
+unfolding iter clamp asr wrap add sub mult shl l_add l_sub l_mult l_shl l_shr_r l_deposit_h doublings norm_l l_extract mpy_32_16 absolute lag_min relative sharpened sharpening squares log2 pow2 gain_table gain_row predicted_gain code_gain decoded_gains state_of core_of post_of indexed_inputs silent index_sheet gains_sheet log_table pow_table
+sheet_is = refl
+
+energies_are : (indexed_inputs log_table pow_table index_sheet (record { sharpening = silent.core.sharpening; gain_decoder = record { energies = opening_energies } })).memory.gain_decoder.energies ≡ energies_left
+unfolding gain_table gain_row decoded_gains indexed_inputs silent index_sheet
+energies_are = refl
+
+pub indexed_values : IndexedValues
+unfolding indexed_call
+indexed_values = record { accepted = index_accepted; sheet = sheet_is; energies = rw index_accepted energies_are }
+
+same : SameAsFrame log_table pow_table opening_energies index_sheet silent out
+same = indexed_is_frame log_table pow_table opening_energies index_sheet silent out (ap is_accepted index_accepted)
+
+same_answer : indexed.answer.frame ≡ (frame_call gains_sheet silent out).answer
+same_answer = rw sheet_is at same.answer
+
+pub indexed_applied : IndexedApplied
+indexed_applied =
+    record {
+      frame_accepted = rw sheet_is at same.accepted;
+      trace = rw sheet_is at same.trace;
+      outcome = ap (λ (a : FrameAnswer). a.outcome) same_answer;
+      rows = ap (λ (a : FrameAnswer). a.rows) same_answer;
+      places = ap (λ (a : FrameAnswer). a.places) same_answer;
+      next = ap (λ (a : FrameAnswer). a.next) same_answer;
+      samples = rw sheet_is at same.lent;
+      shown = λ x y u v w rest logs pows s h. let k = accepted_indexed (u ∷ logs) (v ∷ w ∷ pows) (x ∷ y ∷ rest) s 160 h in (k.gaps.first, k.gaps.later 0 (lit< tt), (k.log_table.range 0 (lit< tt)).0, k.pow_table.rises 0 (lit< tt));
+      indices = λ sheet logs pows s h. let k = accepted_indexed logs pows sheet s 160 h in ((k.gain_indices 0 (lit< tt)).0, (k.gain_indices 3 (lit< tt)).1);
+    }
+
+pub index_order : IndexOrder
+unfolding index_ordered log_table pow_table state_of core_of post_of first_met first_outside first_close is_table call_outcome
+index_order = refl
+
+-- ---- demand 3
+theorem : Demand3 silent index_calls
+theorem = demand_3 silent example.well_formed example.state index_calls
+
+first_accepted : accepted first ≡ true
+unfolding indexed_trace
+first_accepted = rw index_accepted refl
+
+second_refused : accepted second ≡ false
+unfolding indexed_trace call_outcome first_met first_outside first_close is_table index_sheet
+second_refused = refl
+
+any : any_accepted (run_calls silent index_calls) ≡ true
+unfolding run_calls any_accepted
+any = rw first_accepted refl
+
+pub indexed_demand_3 : IndexedDemand3
+indexed_demand_3 =
+    let a = theorem.calls.0 first_accepted in
+    let r = theorem.calls.1.1.1.0 second_refused in
+    record {
+      sharpening = theorem.sharpening any;
+      gain = theorem.gain any;
+      first_accepted = first_accepted;
+      tilts = a.tilts;
+      divisors = a.divisors;
+      four = a.four;
+      places = a.places;
+      rows = a.rows;
+      history = ap (λ (m : Machine). m.history) a.next;
+      past = ap (λ (m : Machine). m.past) a.next;
+      second_refused = second_refused;
+      none = r.none;
+      machine = r.machine;
+      state = r.state;
+    }

@@ -1,0 +1,62 @@
+-- `capi::mr74_frame_indexed`: what does not fit is left; else each part is read, called and written as its function says.
+use borrow.Author.Rules.{rules}
+use mathlib.Core.Path.{ap, ◌∙◌}
+use Rattle.lists.proofs.Signed.{entry_fits}
+use Rattle.coding.specs.Bytes.{words}
+use Rattle.decoder.proofs.Results.{Held}
+use Rattle.mr74.specs.declared.IndexedAnswer.{IndexedAnswer}
+use Rattle.capi.specs.Capi.{state_in, room_in}
+use Rattle.capi.specs.Indexed.{index_sheet_in, table_in}
+use Rattle.capi.proofs.Codes.{index_place}
+use Rattle.capi.proofs.Buffers.{indexed_bytes_lem}
+use Rattle.capi.proofs.Calls.{frame_left}
+use Rattle.capi.proofs.IndexedCalls.{index_state_unfit, index_rows_unfit, index_places_unfit, energies_unfit, indexed_given}
+use Rattle.capi.proofs.indexed.mr74_frame_indexed.Goals as goal
+
+pub returns-in_default : goal.returns-in_default
+returns-in_default c =
+    let a = c.args in
+    index_state_unfit a.sheet.now a.state.now a.out.now a.rows.now a.places.now a.log_table.now a.pow_table.now a.energies.now c.in_default.ensures.cases
+
+pub returns-in_default-as_mut_array : goal.returns-in_default-as_mut_array
+returns-in_default-as_mut_array c =
+    let a = c.args in
+    index_rows_unfit a.sheet.now a.state.now a.out.now a.rows.now a.places.now a.log_table.now a.pow_table.now a.energies.now c.in-Some.ensures.cases c.in_default-as_mut_array.ensures.cases
+
+pub returns-in_default-as_mut_array-2 : goal.returns-in_default-as_mut_array-2
+returns-in_default-as_mut_array-2 c =
+    let a = c.args in
+    index_places_unfit a.sheet.now a.state.now a.out.now a.rows.now a.places.now a.log_table.now a.pow_table.now a.energies.now c.in-Some.ensures.cases c.in-Some-as_mut_array.ensures.cases c.in_default-as_mut_array-2.ensures.cases
+
+pub returns-in_default-as_mut_array-3 : goal.returns-in_default-as_mut_array-3
+returns-in_default-as_mut_array-3 c =
+    let a = c.args in
+    energies_unfit a.sheet.now a.state.now a.out.now a.rows.now a.places.now a.log_table.now a.pow_table.now a.energies.now c.in-Some.ensures.cases c.in-Some-as_mut_array.ensures.cases c.in-Some-as_mut_array-2.ensures.cases c.in_default-as_mut_array-3.ensures.cases
+
+pub give-requires : goal.give-requires
+give-requires c =
+    let a = c.args in
+    let sheet = index_sheet_in a.sheet.now in
+    let logs = table_in a.log_table.now in
+    let pows = table_in a.pow_table.now in
+    let energies = c.energies_in-opened.result.energies in
+    let held : Held c.state_in.result.core = record {
+      past = record { count = search rules; fit = λ i. search (rules, entry_fits) };
+      history = record { count = search rules; fit = λ i. search (rules, entry_fits) };
+    } in
+    rw c.indexed_out-answer.ensures.value
+    (index_place logs pows energies sheet c.state_in.result (room_in a.out.now), indexed_bytes_lem logs pows energies sheet c.state_in.result (room_in a.out.now) held)
+
+pub returns : goal.returns
+returns c =
+    let a = c.args in
+    let s = c.in-Some.ensures.cases in
+    let e = c.in-Some-as_mut_array-3.ensures.cases in
+    let g = c.give.ensures in
+    let t = c.indexed_out-answer.ensures in
+    indexed_given a.sheet.now a.state.now a.out.now a.rows.now a.places.now a.log_table.now a.pow_table.now a.energies.now
+    s.long c.in-Some-as_mut_array.ensures.cases.long c.in-Some-as_mut_array-2.ensures.cases.long e.long
+    (c.state_in.ensures ∙ ap state_in s.same) (c.energies_in-opened.ensures ∙ ap words e.same)
+    t.value
+    (frame_left _ _ (ap (λ (x : IndexedAnswer). x.frame) t.value) t.out_after g.value g.state_after g.rows_after g.places_after)
+    c.write_energies.ensures

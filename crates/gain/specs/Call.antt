@@ -1,0 +1,34 @@
+-- The call of one index (GainDecoder::decode): document 02, 5/13.
+use Rattle.std.specs.Prelude.{◌≡◌, true, cond, List, [], ◌∷◌, ◌++◌, ℤ, pos, replicate, ◌≤ℤ◌}
+use Rattle.lists.specs.Lists.{minus}
+use Rattle.outcome.specs.Outcome.{is_accepted}
+use Rattle.outcome.specs.Checks.{Check, first_met}
+use Rattle.gain.specs.declared.Gains.{Gains}
+use Rattle.gain.specs.declared.GainAnswer.{GainAnswer}
+use Rattle.gain.specs.Gain.{decoded_gains}
+use Rattle.gain.specs.Checks.{table_checks, index_checks}
+
+-- the past energies of a decoder that has decoded nothing (Q10, newest first)
+abbrev pub opening_energies : List ℤ
+opening_energies = replicate 4 (minus 14336)
+
+-- in the order 7, 8
+abbrev pub decode_checks : List ℤ → List ℤ → ℤ → List Check
+decode_checks logs pows index = table_checks logs pows ++ index_checks 1 (index ∷ [])
+
+-- refused: gains 0 and 0, the energies as they came
+abbrev pub no_gains : List ℤ → Gains
+no_gains energies = record { pitch = record { 0 = pos 0 }; code = record { 0 = pos 0 }; next = record { energies = energies } }
+
+unfoldable pub gain_call : List ℤ → List ℤ → ℤ → List ℤ → List ℤ → GainAnswer
+gain_call logs pows index innovation energies =
+    let o = first_met (decode_checks logs pows index) in
+    record { outcome = o; gains = cond (is_accepted o) (decoded_gains logs pows index innovation energies) (no_gains energies) }
+
+-- ---- "from it the code gain is never negative": of any index, innovation and energies, where the tables are accepted. The theorem is `never_negative` in
+-- proofs/Signs.antt
+abbrev pub NeverNegative : Type 0
+NeverNegative =
+    (logs pows : List ℤ) (index : ℤ) (innovation energies : List ℤ)
+    → is_accepted (first_met (decode_checks logs pows index)) ≡ true
+    → pos 0 ≤ℤ (gain_call logs pows index innovation energies).gains.code.0

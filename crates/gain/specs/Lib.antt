@@ -1,0 +1,3 @@
+pub mod Gain
+pub mod Checks
+pub mod Call

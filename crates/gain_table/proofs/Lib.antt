@@ -1,0 +1,2 @@
+-- Ranges: what the table's numbers lie in.
+pub mod Ranges

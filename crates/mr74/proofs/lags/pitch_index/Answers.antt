@@ -1,0 +1,20 @@
+-- `lags::pitch_index` meets its contract: an accepted index is a byte.
+use Prim.Native.Nat.{◌+◌}
+use mathlib.Core.Path.{ap}
+use Rattle.lists.specs.Lists.{at}
+use Rattle.outcome.specs.Outcome.{is_accepted}
+use Rattle.mr74.proofs.Sheets.{byte_fits}
+use Rattle.mr74.proofs.Passed.{index_byte}
+use Rattle.mr74.proofs.lags.pitch_index.Goals as goal
+
+pub overflow_cast-result : goal.overflow_cast-result
+overflow_cast-result c =
+    let a = c.args in
+    let r = index_byte a.sheet.now (ap is_accepted c.requires.accepted) a.subframe c.requires.place.0 in
+    (byte_fits (at a.sheet.now (10 + a.subframe)) r.0 r.1).0
+
+pub returns : goal.returns
+returns c =
+    let a = c.args in
+    let r = index_byte a.sheet.now (ap is_accepted c.requires.accepted) a.subframe c.requires.place.0 in
+    (byte_fits (at a.sheet.now (10 + a.subframe)) r.0 r.1).1

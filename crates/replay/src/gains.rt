@@ -1,0 +1,105 @@
+// Gains from their index on their records: the call of an index, and the frame call of an index sheet. Inputs, then the answers of the reference.
+use super::compare::{rows_same, state_same};
+use super::words::Reader;
+use basicop::Q13;
+use coding::BODY_BYTES;
+use gain::GainDecoder;
+use lpc::Rows;
+
+// Gains and energies of an accepted call.
+pub fn decode(record: &mut Reader) -> Option<bool> {
+    let index = record.number()?;
+    let innovation = Q13(record.numbers()?);
+    let logs: [i16; 33] = record.numbers()?;
+    let pows: [i16; 33] = record.numbers()?;
+    let decoder = GainDecoder {
+        energies: record.numbers()?,
+    };
+    let answer = decoder.decode(index, innovation, &logs, &pows);
+    let gains = answer.gains;
+    Some(
+        answer.outcome.is_ok()
+            && record.number()? == gains.pitch.0
+            && record.number()? == gains.code.0
+            && record.numbers()? == gains.next.energies,
+    )
+}
+
+// A refused call names the recorded number and place, and gives gains 0 and 0 and the energies as they came.
+pub fn refused(record: &mut Reader) -> Option<bool> {
+    let index = record.number()?;
+    let n = usize::from(record.bits()?);
+    let m = usize::from(record.bits()?);
+    let logs: [i16; 35] = record.numbers()?;
+    let pows: [i16; 35] = record.numbers()?;
+    let energies = record.numbers()?;
+    let answer = GainDecoder { energies }.decode(
+        index,
+        Q13([0; 40]),
+        logs.get(..n)?,
+        pows.get(..m)?,
+    );
+    let gains = answer.gains;
+    Some(
+        u64::from(record.bits()?) == outcome::number(answer.outcome)
+            && usize::from(record.bits()?) == outcome::place(answer.outcome)
+            && gains.pitch.0 == 0
+            && gains.code.0 == 0
+            && gains.next.energies == energies,
+    )
+}
+
+// A whole frame: samples, places, rows, next state and energies of an accepted call.
+pub fn frame(record: &mut Reader) -> Option<bool> {
+    let sheet: [i16; 178] = record.numbers()?;
+    let state = coding::state_in(record.array::<BODY_BYTES>()?);
+    let logs: [i16; 33] = record.numbers()?;
+    let pows: [i16; 33] = record.numbers()?;
+    let decoder = GainDecoder {
+        energies: record.numbers()?,
+    };
+    let mut samples = [0; 160];
+    let answer = mr74::frame_indexed(&sheet, state, &logs, &pows, decoder, &mut samples);
+    let frame = answer.frame;
+    Some(
+        frame.outcome.is_ok()
+            && record.numbers()? == samples
+            && record.places()? == frame.places
+            && rows_same(record.rows()?, frame.rows)
+            && state_same(record.array::<BODY_BYTES>()?, frame.next)
+            && record.numbers()? == answer.next.energies,
+    )
+}
+
+// A refused call of an index sheet names the recorded number and place, gives rows of zeros, places 40, state and energies as they came, and leaves the
+// lent output as it was.
+pub fn refused_frame(record: &mut Reader) -> Option<bool> {
+    let n = usize::from(record.bits()?);
+    let room = usize::from(record.bits()?);
+    let l = usize::from(record.bits()?);
+    let m = usize::from(record.bits()?);
+    let sheet: [i16; 184] = record.numbers()?;
+    let before = record.array::<BODY_BYTES>()?;
+    let logs: [i16; 35] = record.numbers()?;
+    let pows: [i16; 35] = record.numbers()?;
+    let energies = record.numbers()?;
+    let mut lent = [0x5555; 200];
+    let answer = mr74::frame_indexed(
+        sheet.get(..n)?,
+        coding::state_in(before),
+        logs.get(..l)?,
+        pows.get(..m)?,
+        GainDecoder { energies },
+        lent.get_mut(..room)?,
+    );
+    let frame = answer.frame;
+    Some(
+        u64::from(record.bits()?) == outcome::number(frame.outcome)
+            && usize::from(record.bits()?) == outcome::place(frame.outcome)
+            && frame.places == [40; 4]
+            && rows_same(Rows::default(), frame.rows)
+            && state_same(before, frame.next)
+            && answer.next.energies == energies
+            && lent == [0x5555; 200],
+    )
+}
