@@ -1,4 +1,4 @@
--- The calls of specs/Gains.antt, computed from the definition; `never_negative`, `row_ranges` and `accepted_tables`, applied. Assumes nothing.
+-- The calls of specs/Gains.antt, computed from the definition; `never_negative`, `row_ranges`, `accepted_tables` and `kept_accepted`, applied. Assumes nothing.
 use mathlib.Core.Path.{refl}
 use mathlib.Core.List.{◌∷◌}
 use native.Mathlib.Omega.{arith}
@@ -15,7 +15,7 @@ use Rattle.gain_table.proofs.Ranges.{row_ranges}
 use Rattle.gain.specs.Gain.{predicted_gain, code_gain, decoded_gains}
 use Rattle.gain.specs.Checks.{is_table}
 use Rattle.gain.specs.Call.{gain_call}
-use Rattle.gain.proofs.Kept.{accepted_tables}
+use Rattle.gain.proofs.Kept.{accepted_tables, kept_accepted}
 use Rattle.gain.proofs.Signs.{never_negative}
 use Rattle.applied.specs.Gains.{log_table, pow_table, gain_calls, GainValues, refused_gains, RefusedGains, GainsApplied}
 
@@ -39,6 +39,7 @@ gains_applied =
       energy = (first.energy.0, last.energy.1);
       three = last.three;
       tables = λ x y z logs pows h. let t = accepted_tables (x ∷ logs) (y ∷ z ∷ pows) h in (omega (arith, t.0.count), (t.0.range 0 (lit< tt)).0, (t.0.range 0 (lit< tt)).1, t.1.rises 0 (lit< tt));
+      kept = kept_accepted log_table (accepted_tables log_table pow_table refl).0;
       refused_code = refl;
       refused_pitch = refl;
       refused_energies = refl;

@@ -1,5 +1,6 @@
 -- `RefusedUnchanged` (capi/specs/Capi.antt) applied to two frame calls over bytes, one turned back by its sheet and one by its state; and the places
--- of the first, computed. `IndexedUnchanged` and `GainUnchanged` (capi/specs/Indexed.antt) applied to a call that is lent no table, and to one of the index 128.
+-- of the first, computed. `IndexedUnchanged` and `GainUnchanged` (capi/specs/Indexed.antt) applied to a call that is lent no table, and to one of the
+-- index 128.
 -- The theorem is `unchanged_applied` in proofs/Capi.antt.
 use Rattle.std.specs.Prelude.{◌≡◌, List, [], ◌∷◌, ◌++◌, ℕ, pos, replicate}
 use Rattle.coding.specs.Bytes.{bytes_of}

@@ -6,7 +6,7 @@ use Rattle.outcome.specs.Outcome.{number_of, place_of, is_accepted}
 use Rattle.outcome.specs.Checks.{first_met}
 use Rattle.gain_table.specs.Rows.{gain_row}
 use Rattle.gain.specs.declared.GainAnswer.{GainAnswer}
-use Rattle.gain.specs.Checks.{table_checks}
+use Rattle.gain.specs.Checks.{is_table, table_checks}
 use Rattle.gain.specs.Call.{opening_energies, gain_call}
 use Rattle.applied.specs.Refusals.{Refusal, refused}
 
@@ -119,6 +119,8 @@ pub record GainsApplied : Type 0 where
       (x y z : ℤ) (logs pows : List ℤ)
       → is_accepted (first_met (table_checks (x ∷ logs) (y ∷ z ∷ pows))) ≡ true
       → (length logs ≡ 32) × (pos 0 ≤ℤ x) × (x ≤ℤ pos 32767) × (y ≤ℤ z)
+  -- KeptAccepted, of what AcceptedTables says of a table
+  pub kept : is_table log_table ≡ true
   -- a refused call gives no gains, and the energies as they came
   pub refused_code : (gain_call negative pow_table (pos 40) quiet opening_energies).gains.code.0 ≡ pos 0
   pub refused_pitch : (gain_call negative pow_table (pos 40) quiet opening_energies).gains.pitch.0 ≡ pos 0

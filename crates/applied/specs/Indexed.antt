@@ -97,7 +97,8 @@ index_ordered =
 abbrev pub IndexOrder : Type 0
 IndexOrder =
     index_ordered
-    ≡ refused 1 0 ∷ refused 5 0 ∷ refused 2 0 ∷ refused 6 0 ∷ refused 3 0 ∷ refused 7 0 ∷ refused 7 1 ∷ refused 8 0 ∷ refused 8 3 ∷ refused 8 2 ∷ refused 16 0 ∷ refused 17 0 ∷ refused 0 0 ∷ []
+    ≡ refused 1 0 ∷ refused 5 0 ∷ refused 2 0 ∷ refused 6 0 ∷ refused 3 0 ∷ refused 7 0 ∷ refused 7 1 ∷ refused 8 0 ∷ refused 8 3 ∷ refused 8 2
+    ∷ refused 16 0 ∷ refused 17 0 ∷ refused 0 0 ∷ []
 
 -- ---- demand 3, of a list with two index calls: this one, and one whose tables have no number and whose energies are others, which is refused
 abbrev pub index_call : Call

@@ -1,4 +1,5 @@
--- The frame call, the reader and the writer over bytes; the calls that take indices of gains are in Indexed.antt. Numbers of 16 bits are two bytes, low byte first. A state is the bytes of a record's body.
+-- The frame call, the reader and the writer over bytes; the calls that take indices of gains are in Indexed.antt. Numbers of 16 bits are two bytes, low
+-- byte first. A state is the bytes of a record's body.
 use Rattle.std.specs.Prelude.{◌≡◌, Bool, cond, ◌&&◌, List, [], ◌∷◌, ℕ, ◌+◌, ◌*◌, eqb, ℤ, pos, length, replicate}
 use Rattle.lists.specs.Parts.{joined}
 use Rattle.lpc.specs.declared.Rows.{Rows}
@@ -34,8 +35,8 @@ abbrev pub fits : ℕ → ℕ → ℕ → Bool
 fits state rows places = eqb state state_length && (eqb rows rows_length && eqb places places_length)
 
 -- ---- numbers and states
--- returned where something lent has another length than its own that no refusal speaks of, as state, rows and places: no number of the paper's. Nothing lent is
--- changed then
+-- returned where something lent that no refusal speaks of, as state, rows and places, has another length than its own: no number of the paper's. Nothing
+-- lent is changed then
 abbrev pub unfit : ℕ
 unfit = 255
 

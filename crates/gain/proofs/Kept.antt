@@ -1,22 +1,24 @@
 -- A table by the two searches, as the code tests it, and what an accepted one is: `AcceptedTables`. Assumes nothing.
-use mathlib.Core.Path.{◌≡◌, refl}
+use mathlib.Core.Path.{◌≡◌, refl, ap}
 use mathlib.Core.Bool.{Bool, true, false, cond, not, ◌&&◌}
 use mathlib.Core.List.{List, [], ◌∷◌}
-use Prim.Native.Nat.{ℕ, suc, ◌≤◌, ◌<◌}
+use Prim.Native.Nat.{ℕ, zero, suc, ◌≤◌, ◌<◌}
 use native.Mathlib.Numerals.{add-one}
 use native.Mathlib.Omega.{arith}
 use lib.Dec.{eqb, ltb, eqb→eq}
-use lib.IntN.{ℤ, pos}
+use lib.IntN.{ℤ, pos, ◌-ℤ◌}
 use lib.ListN.{length, replicate}
+use lib.Signed.{◌≤ℤ◌}
 use borrow.Author.Tests.{eq-eqb, ne_eqb, ltb-true, ltb-false}
 use borrow.Author.Differences.{sum_is_lem}
 use Rattle.std.specs.Prelude.{Some, None, is_some}
 use Rattle.lists.specs.Lists.{at}
 use Rattle.lists.proofs.Table.{both_pass}
-use Rattle.basicop.proofs.Ints.{arith_ℤ}
+use Rattle.basicop.proofs.Ints.{arith_ℤ, sub_ℤ_is}
+use Rattle.basicop.proofs.Tests.{no_less}
 use Rattle.outcome.specs.Checks.{within, apart, found, first_outside, first_close}
 use Rattle.outcome.proofs.Gaps.{in_gaps}
-use Rattle.gain.specs.Checks.{is_table, TableKept, AcceptedTables}
+use Rattle.gain.specs.Checks.{is_table, TableKept, AcceptedTables, KeptAccepted}
 use Rattle.gain.proofs.Groups.{in_limit, tables_accept}
 
 -- ---- what it is
@@ -71,3 +73,27 @@ table_tests numbers e =
 pub no_table : (numbers : List ℤ) → (length numbers ≡ 33 → ⊥) → is_table numbers ≡ false
 unfolding is_table
 no_table numbers h = rw (ne_eqb (length numbers) 33 h)
+
+-- ---- and nothing else: the searches find none where each number lies in its range, and none below the one before it
+none_outside : (n : ℕ) (limit : ℤ) (xs : List ℤ) → length xs ≡ n → ((k : ℕ) → k < n → (pos 0 ≤ℤ at xs k) × (at xs k ≤ℤ limit)) → first_outside xs (replicate n limit) ≡ n
+unfolding first_outside
+none_outside zero limit [] e r = refl
+none_outside zero limit (x ∷ xs) e r = absurd (omega (arith, e))
+none_outside (suc n) limit [] e r = absurd (omega (arith, e))
+none_outside (suc n) limit (x ∷ xs) e r =
+    rw (no_less x (pos 0) (r 0 (omega arith)).0, no_less limit x (r 0 (omega arith)).1) (ap suc (none_outside n limit xs (omega (arith, e)) (λ k l. r (suc k) (omega (arith, l)))))
+
+none_close : (before : ℤ) (xs : List ℤ) → ((k : ℕ) → k < length xs → at (before ∷ xs) k ≤ℤ at xs k) → first_close (pos 0) before xs ≡ length xs
+unfolding first_close
+none_close before [] r = refl
+none_close before (x ∷ xs) r =
+    rw (no_less (x -ℤ before) (pos 0) (omega (arith_ℤ, r 0 (omega arith), sub_ℤ_is x before))) (ap suc (none_close x xs (λ k l. r (suc k) (omega (arith, l)))))
+
+pub kept_accepted : KeptAccepted
+unfolding is_table
+kept_accepted table t =
+    rw (none_outside 33 (pos 32767) table t.count t.range, none_close (pos 0) table above, t.count)
+  where
+    above : (k : ℕ) → k < length table → at (pos 0 ∷ table) k ≤ℤ at table k
+    above zero l = (t.range 0 (omega arith)).0
+    above (suc k) l = rw (← add-one k) (t.rises k (omega (arith, l, t.count)))

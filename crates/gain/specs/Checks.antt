@@ -19,7 +19,8 @@ table_checks logs pows = check (not (is_table logs)) (Table 0) ∷ check (not (i
 abbrev pub index_checks : ℕ → List ℤ → List Check
 index_checks count indices = place_check GainIndex (first_outside indices (replicate count (pos 127))) count ∷ []
 
--- ---- what an accepted table is, without the searches. The theorem is `accepted_tables` in proofs/Kept.antt
+-- ---- what an accepted table is, without the searches; and no other table is turned back. The theorems are `accepted_tables` and `kept_accepted` in
+-- proofs/Kept.antt
 pub record TableKept (table : List ℤ) : Type 0 where
   pub count : length table ≡ 33
   pub range : (k : ℕ) → k < 33 → (pos 0 ≤ℤ at table k) × (at table k ≤ℤ pos 32767)
@@ -27,3 +28,6 @@ pub record TableKept (table : List ℤ) : Type 0 where
 
 abbrev pub AcceptedTables : Type 0
 AcceptedTables = (logs pows : List ℤ) → is_accepted (first_met (table_checks logs pows)) ≡ true → TableKept logs × TableKept pows
+
+abbrev pub KeptAccepted : Type 0
+KeptAccepted = (table : List ℤ) → TableKept table → is_table table ≡ true

@@ -69,7 +69,9 @@ indexed_trace logs pows energies sheet s out =
 -- the energies after it; as they came where it was refused
 abbrev pub energies_after : List ℤ → List ℤ → List ℤ → List ℤ → State → List ℤ → List ℤ
 energies_after logs pows energies sheet s out =
-    cond (is_accepted (indexed_outcome logs pows sheet s (length out))) (indexed_inputs logs pows sheet (opened_memory energies s)).memory.gain_decoder.energies energies
+    cond (is_accepted (indexed_outcome logs pows sheet s (length out)))
+    (indexed_inputs logs pows sheet (opened_memory energies s)).memory.gain_decoder.energies
+    energies
 
 -- what the call gives: its answer, and the lent output afterwards
 pub record IndexedResult : Type 0 where
@@ -96,8 +98,8 @@ with_gains gains sheet = take 14 sheet ++ (gains ++ drop 18 sheet)
 abbrev pub decoded_sheet : List ℤ → List ℤ → List ℤ → List ℤ → State → List ℤ
 decoded_sheet logs pows energies sheet s = with_gains (gain_pairs (indexed_inputs logs pows sheet (opened_memory energies s)).inputs.subframes) sheet
 
--- an accepted index call is the frame call of that sheet, which is accepted: all that the papers speak of, and so outcome, rows, places, next state and samples.
--- The theorem is `indexed_is_frame` in proofs/Indexed.antt
+-- an accepted index call is the frame call of that sheet, which is accepted: all that the papers speak of, and so outcome, rows, places, next state and
+-- samples. The theorem is `indexed_is_frame` in proofs/Indexed.antt
 pub record SameAsFrame (logs pows energies sheet : List ℤ) (s : State) (out : List ℤ) : Type 0 where
   pub accepted : frame_outcome (decoded_sheet logs pows energies sheet s) s (length out) ≡ Ok tt
   pub trace : indexed_trace logs pows energies sheet s out ≡ frame_trace (decoded_sheet logs pows energies sheet s) s out
