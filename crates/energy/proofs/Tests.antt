@@ -7,7 +7,7 @@ use lib.Dec.{T}
 use lib.IntN.{ℤ, pos, negsuc}
 use lib.Signed.{mag, shr_z, ◌≤ℤ◌, ◌<ℤ◌}
 use mir.Syntax.{Width}
-use mir.Val.{hbits, to_z, of_z}
+use mir.Val.{SFits, hbits, to_z, of_z}
 use mir.Facts.{to_z-of_z}
 use Rattle.lists.specs.Lists.{eq_z}
 use Rattle.lists.proofs.Signed.{back}
@@ -40,7 +40,11 @@ pub either : {A : Type 0} (P : A → Type 0) (t : Bool) {a b : A} → P a → P 
 either P true p q = p
 either P false p q = q
 
--- z >> n of a local that holds z, of which it is known what it is
-pub shift_back : (w : Width) (n : ℕ) {z r : ℤ} → mag z < 2 ^ hbits w → z ≡ r → to_z w (of_z w (shr_z (to_z w (of_z w z)) (2 ^ n))) ≡ asr r n
+-- z >> n, read back from a local
+pub moved : (w : Width) (n : ℕ) {z : ℤ} → SFits w z → to_z w (of_z w (shr_z z (2 ^ n))) ≡ asr z n
 unfolding asr
-shift_back w n {z} h e = rw (back w {z = z} h, to_z-of_z (sfits_shr_same w z (2 ^ n) (record { sfits = h }))) (ap (λ (y : ℤ). shr_z y (2 ^ n)) e)
+moved w n {z} f = to_z-of_z (sfits_shr_same w z (2 ^ n) f)
+
+-- the same of a local that holds z, of which it is known what it is
+pub shift_back : (w : Width) (n : ℕ) {z r : ℤ} → mag z < 2 ^ hbits w → z ≡ r → to_z w (of_z w (shr_z (to_z w (of_z w z)) (2 ^ n))) ≡ asr r n
+shift_back w n {z} h e = rw (back w {z = z} h, moved w n {z = z} (record { sfits = h }), e) refl

@@ -1,11 +1,10 @@
-// Inv_sqrt of TS 26.073. What a step asks, `inverse_sqrt` shows.
-ghost use Rattle.std.specs.Prelude.{◌≡◌, ◌≤◌, pos, ◌<ℤ◌};
-ghost use Rattle.basicop.specs.Ops.{norm_l};
-ghost use Rattle.energy.specs.Root.{root_scaled, inverse_root};
+// Inv_sqrt of TS 26.073, in its order.
+ghost use Rattle.std.specs.Prelude.{◌≡◌};
+ghost use Rattle.energy.specs.Root.{inverse_root};
 
-use basicop::{interpolate, l_shl, locate, norm_l};
+use basicop::{extract_h, extract_l, l_msu, l_shl, l_shr, norm_l, sub};
 
-// Q15.
+// table (Q15)
 const INVERSE_TABLE: [i16; 49] = [
     32767, 31790, 30894, 30070, 29309, 28602, 27945, 27330, 26755, 26214, 25705, 25225, 24770,
     24339, 23930, 23541, 23170, 22817, 22479, 22155, 21845, 21548, 21263, 20988, 20724, 20470,
@@ -13,36 +12,28 @@ const INVERSE_TABLE: [i16; 49] = [
     17674, 17515, 17361, 17211, 17064, 16921, 16782, 16646, 16514, 16384,
 ];
 
-// how far a positive number can be shifted to the left
-fn normalization(value: i32) -> u32
-    requires { pos 0 <ℤ value }
-    ensures { (pos result ≡ norm_l value) × (result ≤ 30) }
-{
-    norm_l(value) as u32
-}
-
-// the number so shifted; halved where the exponent is even
-fn normalized(value: i32, normalization: u32) -> i32
-    requires { normalization ≤ 30 }
-    ensures { result ≡ root_scaled value (pos normalization) }
-{
-    let shifted = l_shl(value, normalization as i16);
-    let even = (30 - normalization) % 2 == 0;
-    if even {
-        return shifted >> 1;
-    }
-    shifted
-}
-
-// 1 / sqrt(value); zero or less gives 1073741823
+// 1 / sqrt(value); zero or less gives 1073741823. Beside each line stands the standard's variable that it sets.
+// L_shr and shr by a constant are `>>`, L_deposit_h is `<< 16`, and add's 1 is added as it is: none of them can clamp.
 pub fn inverse_sqrt(value: i32) -> i32
     ensures { result ≡ inverse_root value }
 {
+    let table = &INVERSE_TABLE; // table
     if value <= 0 {
         return 1073741823;
     }
-    let n = normalization(value);
-    let scaled = normalized(value, n);
-    let between = interpolate(&INVERSE_TABLE, locate(scaled >> 9, 16));
-    between >> ((30 - n) / 2 + 1)
+    let mut exponent = norm_l(value); // exp
+    let mut x = l_shl(value, exponent); // L_x
+    exponent = sub(30, exponent); // exp
+    if (exponent & 1) == 0 {
+        x >>= 1; // L_x, where exp is even
+    }
+    exponent = (exponent >> 1) + 1; // exp
+    x >>= 9; // L_x
+    let index = sub(extract_h(x), 16) as usize; // i
+    x >>= 1; // L_x
+    let fraction = extract_l(x) & 0x7fff; // a
+    let mut y = (table[index] as i32) << 16; // L_y
+    let step = sub(table[index], table[index + 1]); // tmp
+    y = l_msu(y, step, fraction); // L_y
+    l_shr(y, exponent) // L_y
 }

@@ -50,7 +50,7 @@ root_plain x p f =
       shift = shift_is n l ∙ sym (rw (minus 30 n l, asr_pos (30 - n) 1) refl);
       position = w;
       between = b;
-      is = sym (root_found x y (interpolated inverse_table (root_position y)) n p (sym h.1.count) l refl refl);
+      is = sym (rw (h.1.count, shift_is n l) at (root_found x p));
       from = b.from 16384 e.0.from e.1.from;
       to = b.to 32767 e.0.to e.1.to;
     }

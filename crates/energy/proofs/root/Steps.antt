@@ -1,31 +1,35 @@
 -- The steps of Inv_sqrt, for a positive number: what each gives, its range, and as the code has it. Assumes nothing.
-use mathlib.Core.Path.{◌≡◌, ap, ◌∙◌}
+use mathlib.Core.Path.{◌≡◌, refl, ap, ◌∙◌}
 use mathlib.Core.Bool.{true, false}
-use Prim.Native.Nat.{ℕ, ◌+◌, ◌-◌, ◌/◌, ◌%◌, ◌<◌, ◌≤◌}
+use Prim.Native.Nat.{ℕ, ◌+◌, ◌-◌, ◌/◌, ◌<◌, ◌≤◌}
 use native.Mathlib.Nat.{div-lt_iff_lt-mul, div-add-mod', mod-lt}
 use native.Mathlib.Omega.{arith}
 use borrow.Author.Tests.{lt-leb, eq-eqb, ne_eqb}
+use lib.Bits.{bit_and}
 use lib.Dec.{eqb, lit<, lit≤}
 use lib.IntN.{ℤ, pos, negsuc, ◌+ℤ◌}
-use lib.ListN.{length}
 use lib.Signed.{◌≤ℤ◌, ◌<ℤ◌, le_z, le_z_yes}
-use mir.Syntax.{w32}
-use mir.Val.{SFits}
+use mir.Syntax.{w16, w32}
+use mir.Val.{SFits, of_z}
 use Rattle.lists.specs.Lists.{eq_z, entry}
 use Rattle.basicop.specs.Ops.{asr, low_bits, sub, l_shl, l_shr, norm_l}
 use Rattle.basicop.specs.Interpolation.{interpolated}
-use Rattle.basicop.proofs.Ints.{arith_ℤ, le_in, lt_in, ≤ℤ_trans}
+use Rattle.basicop.proofs.Ints.{arith_ℤ, sfits_by, le_in, lt_in, ≤ℤ_trans}
 use Rattle.basicop.proofs.Naturals.{asr_pos, add_pos, sub_pos}
 use Rattle.basicop.proofs.Norm.{Normalised, normalised}
-use Rattle.basicop.proofs.Tables.{Within, normal_within, Between, step, has_next}
+use Rattle.basicop.proofs.Tables.{Within, normal_within, Between, step}
 use Rattle.energy.specs.Root.{inverse_table, root_scaled, root_position, root_shift, inverse_root}
 use Rattle.energy.proofs.Tests.{either}
-use Rattle.energy.proofs.root.Table.{table_length, entry_of}
+use Rattle.energy.proofs.root.Forms.{masked}
+use Rattle.energy.proofs.root.Table.{entry_of}
 
 -- ---- halved where the exponent is even
 pub record Scaled (y : ℤ) : Type 0 where
   pub from : pos 536870912 ≤ℤ y
   pub below : y <ℤ pos 2147483648
+
+pub scaled_fits : {y : ℤ} → Scaled y → SFits w32 y
+scaled_fits {y} s = sfits_by (omega (arith_ℤ, s.from, s.below))
 
 halved : (y : ℤ) → pos 1073741824 ≤ℤ y → y <ℤ pos 2147483648 → Scaled (asr y 1)
 halved (pos y) h l =
@@ -67,17 +71,17 @@ shift_is n h = rw (exponent_is n h, asr_pos (30 - n) 1) (add_pos ((30 - n) / 2) 
 pub shift_most : (n : ℕ) → (30 - n) / 2 + 1 ≤ 16
 shift_most n = omega (arith, half_less n)
 
--- ---- as the code has it
-even : (n : ℕ) → n ≤ 30 → eq_z (low_bits 1 (sub (pos 30) (pos n))) (pos 0) ≡ eqb ((30 - n) % 2) 0
-even n h = rw (exponent_is n h)
+-- ---- as the code has it: the exponent's lowest bit decides
+even : (n : ℤ) → SFits w16 (sub (pos 30) n) → eq_z (low_bits 1 (sub (pos 30) n)) (pos 0) ≡ eqb (bit_and (of_z w16 (sub (pos 30) n)) 1) 0
+even n f = rw (masked w16 15 1 (sub (pos 30) n) refl f)
 
-pub scaled_even : (x : ℤ) (n : ℕ) → n ≤ 30 → (30 - n) % 2 ≡ 0 → asr (l_shl x (pos n)) 1 ≡ root_scaled x (pos n)
+pub scaled_even : (x n : ℤ) → SFits w16 (sub (pos 30) n) → bit_and (of_z w16 (sub (pos 30) n)) 1 ≡ 0 → asr (l_shl x n) 1 ≡ root_scaled x n
 unfolding root_scaled
-scaled_even x n h e = rw (even n h, eq-eqb ((30 - n) % 2) 0 e)
+scaled_even x n f e = rw (even n f, eq-eqb _ 0 e)
 
-pub scaled_odd : (x : ℤ) (n : ℕ) → n ≤ 30 → ((30 - n) % 2 ≡ 0 → ⊥) → l_shl x (pos n) ≡ root_scaled x (pos n)
+pub scaled_odd : (x n : ℤ) → SFits w16 (sub (pos 30) n) → (bit_and (of_z w16 (sub (pos 30) n)) 1 ≡ 0 → ⊥) → l_shl x n ≡ root_scaled x n
 unfolding root_scaled
-scaled_odd x n h e = rw (even n h, ne_eqb ((30 - n) % 2) 0 e)
+scaled_odd x n f e = rw (even n f, ne_eqb _ 0 e)
 
 above : (x : ℤ) → pos 0 <ℤ x → le_z x (pos 0) ≡ false
 above (pos a) p = lt-leb a 0 (omega arith_ℤ)
@@ -87,13 +91,18 @@ pub root_none : (x : ℤ) → le_z x (pos 0) ≡ true → pos 1073741823 ≡ inv
 unfolding inverse_root
 root_none x e = rw e
 
--- what the steps give, from what each is
-pub root_found : (x y b : ℤ) (n : ℕ) → pos 0 <ℤ x → pos n ≡ norm_l x → n ≤ 30 → y ≡ root_scaled x (pos n) → b ≡ interpolated inverse_table (root_position y) → asr b ((30 - n) / 2 + 1) ≡ inverse_root x
+pub root_found : (x : ℤ) → pos 0 <ℤ x → l_shr (interpolated inverse_table (root_position (root_scaled x (norm_l x)))) (root_shift (norm_l x)) ≡ inverse_root x
 unfolding inverse_root
-root_found x y b n p e h d l = rw (above x p, ← e, ← d, ← l, shift_is n h)
+root_found x p = rw (above x p) refl
 
--- what the step between two entries asks
-pub scaled_found : (x y : ℤ) (n : ℕ) → pos 0 <ℤ x → SFits w32 x → pos n ≡ norm_l x → y ≡ root_scaled x (pos n) → (pos 0 ≤ℤ (root_position y).index) × (((root_position y).index +ℤ pos 1) <ℤ pos (length inverse_table))
-scaled_found x y n p f e d =
-    let h = normalised x p f in
-    has_next inverse_table (positioned y (rw (d, e, h.1.count) (scaled_in x h.0 h.1))) table_length
+-- what a positive number is scaled to
+pub scaled_normal : (x : ℤ) → pos 0 <ℤ x → SFits w32 x → Scaled (root_scaled x (norm_l x))
+scaled_normal x p f = let h = normalised x p f in rw h.1.count (scaled_in x h.0 h.1)
+
+-- its index, as a natural number
+pub index_is : (y : ℤ) → Scaled y → (k : ℕ) × ((root_position y).index ≡ pos k) × (k < 48)
+index_is y s = let w = positioned y s in go (root_position y).index refl w.from w.below
+  where
+    go : (i : ℤ) → (root_position y).index ≡ i → pos 0 ≤ℤ i → i <ℤ pos 48 → (k : ℕ) × ((root_position y).index ≡ pos k) × (k < 48)
+    go (pos k) e h l = (k, e, omega arith_ℤ)
+    go (negsuc k) e h l = absurd h.le

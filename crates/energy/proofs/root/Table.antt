@@ -8,9 +8,11 @@ use lib.Dec.{T, leb}
 use lib.IntN.{ℤ, pos, negsuc, ◌+ℤ◌}
 use lib.ListN.{length}
 use lib.Signed.{le_z, lt_z, ◌≤ℤ◌, ◌<ℤ◌, le_z_yes, lt_z_yes}
+use mir.Syntax.{w16}
+use mir.Val.{SFits}
 use Rattle.lists.specs.Lists.{at, entry}
 use Rattle.lists.proofs.Table.{at_each, both_pass}
-use Rattle.basicop.proofs.Ints.{arith_ℤ}
+use Rattle.basicop.proofs.Ints.{arith_ℤ, sfits_by}
 use Rattle.energy.specs.Root.{inverse_table}
 
 pub table_length : length inverse_table ≡ 49
@@ -34,6 +36,9 @@ tested k h = at_each rule inverse_table tt k h
 pub record Entry (x : ℤ) : Type 0 where
   pub from : pos 16384 ≤ℤ x
   pub to : x ≤ℤ pos 32767
+
+pub entry_fits : {x : ℤ} → Entry x → SFits w16 x
+entry_fits e = sfits_by (omega (arith_ℤ, e.from, e.to))
 
 pub record Step (x next : ℤ) : Type 0 where
   pub falls : next <ℤ x
