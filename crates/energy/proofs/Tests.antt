@@ -41,10 +41,10 @@ either P true p q = p
 either P false p q = q
 
 -- z >> n, read back from a local
-pub moved : (w : Width) (n : ℕ) {z : ℤ} → SFits w z → to_z w (of_z w (shr_z z (2 ^ n))) ≡ asr z n
+pub asr_read : (w : Width) (n : ℕ) {z : ℤ} → SFits w z → to_z w (of_z w (shr_z z (2 ^ n))) ≡ asr z n
 unfolding asr
-moved w n {z} f = to_z-of_z (sfits_shr_same w z (2 ^ n) f)
+asr_read w n {z} f = to_z-of_z (sfits_shr_same w z (2 ^ n) f)
 
 -- the same of a local that holds z, of which it is known what it is
 pub shift_back : (w : Width) (n : ℕ) {z r : ℤ} → mag z < 2 ^ hbits w → z ≡ r → to_z w (of_z w (shr_z (to_z w (of_z w z)) (2 ^ n))) ≡ asr r n
-shift_back w n {z} h e = rw (back w {z = z} h, moved w n {z = z} (record { sfits = h }), e) refl
+shift_back w n {z} h e = rw (back w {z = z} h, asr_read w n {z = z} (record { sfits = h }), e) refl

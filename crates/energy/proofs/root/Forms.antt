@@ -1,4 +1,4 @@
--- Where the inverse root has a form of the language in the place of an operator of the standard, it is that operator. Assumes nothing.
+-- Where the inverse root has a form of the language for an operator, it is the operator (L_shr: `asr_read` of Tests); and L_msu by what it is of. Assumes nothing.
 use mathlib.Core.Path.{◌≡◌, refl, sym, ap, ◌∙◌}
 use Prim.Native.Nat.{ℕ, suc, ◌+◌, ◌*◌, ◌-◌, ◌/◌, ◌%◌, ◌^◌, ◌<◌}
 use native.Mathlib.Nat.{mod-eq_of_lt, mod-lt}
@@ -37,7 +37,7 @@ bits_are w (negsuc a) f = ap (λ (n : ℕ). 2 ^ bits w - suc n) (sym (mod-eq_of_
 pub masked : (w : Width) (j k : ℕ) (z : ℤ) → bits w ≡ j + k → SFits w z → bit_and (of_z w z) (2 ^ k - 1) ≡ mod_z z (2 ^ k)
 masked w j k z e f = rw (bits_are w z f, and_mask (mod_z z (2 ^ bits w)) k, e) (low_low z j k)
 
--- of what extract_l gave
+-- of what extract_l gave: the low 15 bits of what it was given
 pub fraction_is : {r : ℤ} (z : ℤ) → r ≡ extract_l z → to_z w16 (bit_and (of_z w16 r) 32767) ≡ low_bits 15 z
 fraction_is z e =
     let same : mod_z (extract_l z) 32768 ≡ mod_z z 32768 =
@@ -61,6 +61,6 @@ unfolding l_deposit_h
 deposited (pos t) e h l = rw e (shifted w32 16 t (omega arith_ℤ))
 deposited (negsuc t) e h l = absurd h.le
 
--- ---- L_msu by what it is of
-pub l_msu_is : {s s' a a' b b' : ℤ} → s ≡ s' → a ≡ a' → b ≡ b' → l_msu s a b ≡ l_msu s' a' b'
-l_msu_is e p q = rw (e, p, q) refl
+-- ---- L_msu
+pub l_msu_eq : {s s' a a' b b' : ℤ} → s ≡ s' → a ≡ a' → b ≡ b' → l_msu s a b ≡ l_msu s' a' b'
+l_msu_eq e p q = rw (e, p, q) refl

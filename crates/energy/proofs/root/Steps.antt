@@ -28,8 +28,8 @@ pub record Scaled (y : ℤ) : Type 0 where
   pub from : pos 536870912 ≤ℤ y
   pub below : y <ℤ pos 2147483648
 
-pub scaled_fits : {y : ℤ} → Scaled y → SFits w32 y
-scaled_fits {y} s = sfits_by (omega (arith_ℤ, s.from, s.below))
+pub root_scaled_fits : {y : ℤ} → Scaled y → SFits w32 y
+root_scaled_fits {y} s = sfits_by (omega (arith_ℤ, s.from, s.below))
 
 halved : (y : ℤ) → pos 1073741824 ≤ℤ y → y <ℤ pos 2147483648 → Scaled (asr y 1)
 halved (pos y) h l =

@@ -1,12 +1,10 @@
 -- The table of the inverse root: 49 entries within 16384..=32767, each less than the one before it, by at most 977. Assumes nothing.
-use mathlib.Core.Path.{◌≡◌, refl}
 use mathlib.Core.Bool.{Bool, ◌&&◌, ◌||◌}
 use Prim.Native.Nat.{ℕ, ◌+◌, ◌<◌}
 use native.Mathlib.Omega.{arith}
 use borrow.Author.Tests.{lt-leb}
 use lib.Dec.{T, leb}
 use lib.IntN.{ℤ, pos, negsuc, ◌+ℤ◌}
-use lib.ListN.{length}
 use lib.Signed.{le_z, lt_z, ◌≤ℤ◌, ◌<ℤ◌, le_z_yes, lt_z_yes}
 use mir.Syntax.{w16}
 use mir.Val.{SFits}
@@ -14,10 +12,6 @@ use Rattle.lists.specs.Lists.{at, entry}
 use Rattle.lists.proofs.Table.{at_each, both_pass}
 use Rattle.basicop.proofs.Ints.{arith_ℤ, sfits_by}
 use Rattle.energy.specs.Root.{inverse_table}
-
-pub table_length : length inverse_table ≡ 49
-unfolding inverse_table
-table_length = refl
 
 -- the one test: an entry's range, and of all but the last the step to the next
 range : ℤ → Bool
@@ -37,8 +31,8 @@ pub record Entry (x : ℤ) : Type 0 where
   pub from : pos 16384 ≤ℤ x
   pub to : x ≤ℤ pos 32767
 
-pub entry_fits : {x : ℤ} → Entry x → SFits w16 x
-entry_fits e = sfits_by (omega (arith_ℤ, e.from, e.to))
+pub table_fits : {x : ℤ} → Entry x → SFits w16 x
+table_fits e = sfits_by (omega (arith_ℤ, e.from, e.to))
 
 pub record Step (x next : ℤ) : Type 0 where
   pub falls : next <ℤ x

@@ -15,10 +15,10 @@ use Rattle.basicop.proofs.Ints.{le_in, lt_in, ≤ℤ_trans}
 use Rattle.basicop.proofs.Shift.{asr_same}
 use Rattle.basicop.proofs.Tests.{at_most_no}
 use Rattle.energy.specs.Root.{inverse_table, root_scaled, root_position}
-use Rattle.energy.proofs.Tests.{moved}
-use Rattle.energy.proofs.root.Forms.{fraction_is, half_and_one, deposited, l_msu_is}
-use Rattle.energy.proofs.root.Table.{entry_of, entry_fits}
-use Rattle.energy.proofs.root.Steps.{Scaled, scaled_fits, root_none, root_found, scaled_even, scaled_odd, scaled_normal, index_is}
+use Rattle.energy.proofs.Tests.{asr_read}
+use Rattle.energy.proofs.root.Forms.{fraction_is, half_and_one, deposited, l_msu_eq}
+use Rattle.energy.proofs.root.Table.{entry_of, table_fits}
+use Rattle.energy.proofs.root.Steps.{Scaled, root_scaled_fits, root_none, root_found, scaled_even, scaled_odd, scaled_normal, index_is}
 use Rattle.energy.proofs.root.inverse_sqrt.Goals as goal
 use Rattle.energy.proofs.root.inverse_sqrt.Goals.{After-sub-exponent, After-extract_h, After-sub-index, After-l_msu-y, then-exponent-eq0, else-exponent-eq0}
 
@@ -43,7 +43,7 @@ scaled_is c =
     let fits : SFits w32 c.l_shl-x.result = record { sfits = c.l_shl-x.type_inv } in
     let h = exponent c.before.before in
     elim c.if-exponent-eq0.branch [
-      | then-exponent-eq0 w ↦ w.x-is ∙ rw (to_z-of_z fits, moved w32 1 fits, h.0) (scaled_even c.args.value _ h.2 (rw h.1 at w.if-exponent-eq0.true))
+      | then-exponent-eq0 w ↦ w.x-is ∙ rw (to_z-of_z fits, asr_read w32 1 fits, h.0) (scaled_even c.args.value _ h.2 (rw h.1 at w.if-exponent-eq0.true))
       | else-exponent-eq0 w ↦ w.x-is ∙ rw (to_z-of_z fits, h.0) (scaled_odd c.args.value _ h.2 (rw h.1 at w.if-exponent-eq0.false))
     ]
 
@@ -57,9 +57,9 @@ normal c = scaled_normal c.args.value (above c) c.ranges.value
 index : (c : After-sub-index) → (k : ℕ) × ((root_position (scaled c.before)).index ≡ pos k) × (k < 48) × (to_z w16 (of_z w16 c.sub-index.result) ≡ pos k)
 index c =
     let y = scaled c.before in
-    let fits = scaled_fits (normal c.before) in
+    let fits = root_scaled_fits (normal c.before) in
     let high : to_z w16 (of_z w16 c.extract_h.result) ≡ extract_h (asr y 9) =
-    got w16 c.extract_h.type_inv (c.extract_h.ensures ∙ rw (scaled_is c.before) (ap extract_h (moved w32 9 fits))) in
+    got w16 c.extract_h.type_inv (c.extract_h.ensures ∙ rw (scaled_is c.before) (ap extract_h (asr_read w32 9 fits))) in
     let h = index_is y (normal c.before) in
     (h.0, h.1, h.2, got w16 c.sub-index.type_inv (c.sub-index.ensures ∙ rw high h.1))
 
@@ -84,16 +84,16 @@ unfolding inverse_table
 way c =
     let b = (at_index c).before in
     let y = scaled b in
-    let fits = scaled_fits (normal b) in
+    let fits = root_scaled_fits (normal b) in
     let h = index (at_index c) in
     let e = entry_of (pos h.0) (le_in (omega arith)) (lt_in (omega (arith, h.2))) in
-    let low = to_z-of_z (entry_fits e.0) in
+    let low = to_z-of_z (table_fits e.0) in
     let step : to_z w16 (of_z w16 c.sub-step.result) ≡ sub (at inverse_table h.0) (at inverse_table (h.0 + 1)) =
-    got w16 c.sub-step.type_inv (c.sub-step.ensures ∙ rw h.3 (ap₂ sub low (to_z-of_z (entry_fits e.1)))) in
+    got w16 c.sub-step.type_inv (c.sub-step.ensures ∙ rw h.3 (ap₂ sub low (to_z-of_z (table_fits e.1)))) in
     let x : c.extract_l-fraction.result ≡ extract_l (asr (asr y 9) 1) =
-    c.extract_l-fraction.ensures ∙ rw (scaled_is b, moved w32 9 fits) (ap extract_l (moved w32 1 (asr_same w32 y 9 fits))) in
+    c.extract_l-fraction.ensures ∙ rw (scaled_is b, asr_read w32 9 fits) (ap extract_l (asr_read w32 1 (asr_same w32 y 9 fits))) in
     let high = deposited (at inverse_table h.0) low (≤ℤ_trans (le_z_yes tt) e.0.from) e.0.to in
-    rw h.1 (got w32 c.l_msu-y.type_inv (c.l_msu-y.ensures ∙ l_msu_is (rw h.3 high) step (fraction_is (asr (asr y 9) 1) x)))
+    rw h.1 (got w32 c.l_msu-y.type_inv (c.l_msu-y.ensures ∙ l_msu_eq (rw h.3 high) step (fraction_is (asr (asr y 9) 1) x)))
 
 pub returns : goal.returns
 returns c =
