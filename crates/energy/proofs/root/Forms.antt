@@ -1,4 +1,4 @@
--- Where the inverse root has a form of the language for an operator, it is the operator (L_shr: `asr_read` of Tests); and L_msu by what it is of. Assumes nothing.
+-- Where the inverse root has a form of the language for an operator, it is the operator (L_shr: `asr_read` of Tests). Assumes nothing.
 use mathlib.Core.Path.{◌≡◌, refl, sym, ap, ◌∙◌}
 use Prim.Native.Nat.{ℕ, suc, ◌+◌, ◌*◌, ◌-◌, ◌/◌, ◌%◌, ◌^◌, ◌<◌}
 use native.Mathlib.Nat.{mod-eq_of_lt, mod-lt}
@@ -12,7 +12,7 @@ use lib.Signed.{◌≤ℤ◌, shr_z}
 use mir.Syntax.{Width, w16, w32}
 use mir.Val.{SFits, bits, hbits, of_z, to_z}
 use mir.Facts.{to_z-of_z, to_z_pos}
-use Rattle.basicop.specs.Ops.{asr, mod_z, low_bits, add, l_msu, extract_l, l_deposit_h}
+use Rattle.basicop.specs.Ops.{asr, mod_z, low_bits, add, extract_l, l_deposit_h}
 use Rattle.basicop.proofs.Clamp.{clamp_id}
 use Rattle.basicop.proofs.Ints.{arith_ℤ, sfits_by}
 use Rattle.basicop.proofs.Shift.{mod_z_lt, shr_is, sfits_shr_same}
@@ -60,7 +60,3 @@ pub deposited : {r : ℤ} (t : ℤ) → r ≡ t → pos 0 ≤ℤ t → t ≤ℤ 
 unfolding l_deposit_h
 deposited (pos t) e h l = rw e (shifted w32 16 t (omega arith_ℤ))
 deposited (negsuc t) e h l = absurd h.le
-
--- ---- L_msu
-pub l_msu_eq : {s s' a a' b b' : ℤ} → s ≡ s' → a ≡ a' → b ≡ b' → l_msu s a b ≡ l_msu s' a' b'
-l_msu_eq e p q = rw (e, p, q) refl

@@ -9,14 +9,14 @@ use mir.Val.{SFits, of_z, to_z}
 use mir.Facts.{to_z-of_z}
 use Rattle.lists.specs.Lists.{at}
 use Rattle.lists.proofs.Signed.{got}
-use Rattle.basicop.specs.Ops.{asr, sub, l_shl, norm_l, extract_h, extract_l}
+use Rattle.basicop.specs.Ops.{asr, sub, l_sub, l_mult, l_shl, norm_l, extract_h, extract_l}
 use Rattle.basicop.specs.Interpolation.{interpolated}
 use Rattle.basicop.proofs.Ints.{le_in, lt_in, ≤ℤ_trans}
 use Rattle.basicop.proofs.Shift.{asr_same}
 use Rattle.basicop.proofs.Tests.{at_most_no}
 use Rattle.energy.specs.Root.{inverse_table, root_scaled, root_position}
 use Rattle.energy.proofs.Tests.{asr_read}
-use Rattle.energy.proofs.root.Forms.{fraction_is, half_and_one, deposited, l_msu_eq}
+use Rattle.energy.proofs.root.Forms.{fraction_is, half_and_one, deposited}
 use Rattle.energy.proofs.root.Table.{entry_of, table_fits}
 use Rattle.energy.proofs.root.Steps.{Scaled, root_scaled_fits, root_none, root_found, scaled_even, scaled_odd, scaled_normal, index_is}
 use Rattle.energy.proofs.root.inverse_sqrt.Goals as goal
@@ -93,7 +93,7 @@ way c =
     let x : c.extract_l-fraction.result ≡ extract_l (asr (asr y 9) 1) =
     c.extract_l-fraction.ensures ∙ rw (scaled_is b, asr_read w32 9 fits) (ap extract_l (asr_read w32 1 (asr_same w32 y 9 fits))) in
     let high = deposited (at inverse_table h.0) low (≤ℤ_trans (le_z_yes tt) e.0.from) e.0.to in
-    rw h.1 (got w32 c.l_msu-y.type_inv (c.l_msu-y.ensures ∙ l_msu_eq (rw h.3 high) step (fraction_is (asr (asr y 9) 1) x)))
+    rw h.1 (got w32 c.l_msu-y.type_inv (c.l_msu-y.ensures ∙ ap₂ l_sub (rw h.3 high) (ap₂ l_mult step (fraction_is (asr (asr y 9) 1) x))))
 
 pub returns : goal.returns
 returns c =
