@@ -10,8 +10,9 @@ const SOURCE: &str = "../shared/docs/src";
 const FOLDER: &str = "crates/bts136/src/codec";
 
 /// What is written: a tree for each way of decoding, which differ in their patches alone.
-/// `reference` decodes frame sheets. `indexed` has innovation and gains from the source's indices.
-/// `lent` decodes index sheets: innovation from the sheet, gains from their indices, by lent tables.
+/// `reference` decodes frame sheets and erased sheets. `indexed` has innovation and gains from the
+/// source's indices. `lent` decodes index sheets: innovation from the sheet, gains from their indices,
+/// by lent tables.
 const ALL: &[&str] = &["reference", "indexed", "lent"];
 const FRAME_SHEETS: &[&str] = &["reference"];
 const INDEX_SHEETS: &[&str] = &["lent"];
@@ -85,7 +86,7 @@ struct Patch {
 const SEEN: &str = "visibility";
 const LENT: &str = "an entry of the lent table in place of the constant's";
 
-const PATCHES: [Patch; 29] = [
+const PATCHES: [Patch; 39] = [
     // The sheet in place of the tables.
     Patch {
         trees: ALL,
@@ -93,6 +94,13 @@ const PATCHES: [Patch; 29] = [
         old: "self.spectral.decode(parameters)",
         new: "super::sheet::spectrum()",
         why: "the sheet's LSFs in place of the LSF quantiser's",
+    },
+    Patch {
+        trees: ALL,
+        file: "mr74/lpc.rs",
+        old: "self.spectral.conceal()",
+        new: "super::sheet::spectrum()",
+        why: "the erased sheet's LSFs in place of the concealed ones",
     },
     Patch {
         trees: SHEETS,
@@ -230,16 +238,80 @@ const PATCHES: [Patch; 29] = [
         new: "pub(super) previous_gain: i16,",
         why: SEEN,
     },
+    // The concealment's part of the state, and a frame that is good or erased.
+    Patch {
+        trees: ALL,
+        file: "mr74/excitation.rs",
+        old: "pitch: pitch::PitchDecoder,",
+        new: "pub(super) pitch: pitch::PitchDecoder,",
+        why: SEEN,
+    },
+    Patch {
+        trees: ALL,
+        file: "mr74/excitation.rs",
+        old: "concealment: GainConcealment,",
+        new: "pub(super) concealment: GainConcealment,",
+        why: SEEN,
+    },
+    Patch {
+        trees: ALL,
+        file: "mr74/excitation.rs",
+        old: "loss: SpeechLossState,",
+        new: "pub(super) loss: SpeechLossState,",
+        why: SEEN,
+    },
+    Patch {
+        trees: ALL,
+        file: "mr74/pitch.rs",
+        old: "previous: PitchLag,",
+        new: "pub(super) previous: PitchLag,",
+        why: SEEN,
+    },
+    Patch {
+        trees: ALL,
+        file: "mr74/gain_concealment.rs",
+        old: "pitch_history: [i16;",
+        new: "pub(super) pitch_history: [i16;",
+        why: SEEN,
+    },
+    Patch {
+        trees: ALL,
+        file: "mr74/gain_concealment.rs",
+        old: "code_history: [i16;",
+        new: "pub(super) code_history: [i16;",
+        why: SEEN,
+    },
+    Patch {
+        trees: ALL,
+        file: "mr74/gain_concealment.rs",
+        old: "past: Gains,",
+        new: "pub(super) past: Gains,",
+        why: SEEN,
+    },
+    Patch {
+        trees: ALL,
+        file: "mr74/gain_concealment.rs",
+        old: "last_good: Gains,",
+        new: "pub(super) last_good: Gains,",
+        why: SEEN,
+    },
+    Patch {
+        trees: ALL,
+        file: "mr74/decoder.rs",
+        old: "fn decode_quality(",
+        new: "pub(super) fn decode_quality(",
+        why: SEEN,
+    },
     // The past energies, and the constant tables, which a caller may lend.
     Patch {
-        trees: INDEX_SHEETS,
+        trees: ALL,
         file: "mr74/excitation.rs",
         old: "gains: gain::GainDecoder,",
         new: "pub(super) gains: gain::GainDecoder,",
         why: SEEN,
     },
     Patch {
-        trees: INDEX_SHEETS,
+        trees: ALL,
         file: "mr74/gain.rs",
         old: "energies_q10: [i16;",
         new: "pub(super) energies_q10: [i16;",

@@ -1,23 +1,25 @@
--- `refused_unchanged`, `indexed_unchanged` and `gain_unchanged` at calls over bytes: the returned numbers, and the places of one, are computed, and the calls stay
+-- `refused_unchanged`, `indexed_unchanged`, `erased_unchanged` and `gain_unchanged` at calls over bytes: the returned numbers, and the places of one, are computed, and the calls stay
 -- shut where the theorem is applied. Assumes nothing.
 use mathlib.Core.Path.{◌≡◌, refl}
 use mathlib.Core.List.{List, [], ◌∷◌, ◌++◌}
-use Prim.Native.Nat.{ℕ, suc}
+use Prim.Native.Nat.{ℕ, suc, ◌+◌, ◌*◌}
 use native.Mathlib.Omega.{arith}
 use lib.IntN.{pos}
 use lib.ListN.{replicate}
 use Rattle.outcome.specs.Checks.{first_met, first_outside, first_close}
-use Rattle.state.specs.Layout.{core_of, post_of, state_of}
+use Rattle.state.specs.Layout.{core_of, post_of, concealment_of, state_of}
 use Rattle.coding.specs.Bytes.{words, bytes_of, Bytes}
 use Rattle.mr74.specs.Checks.{call_outcome}
 use Rattle.mr74.specs.Frame.{frame_trace, frame_call}
 use Rattle.capi.specs.Capi.{frame_bytes}
-use Rattle.capi.specs.Indexed.{indexed_bytes, gain_bytes}
-use Rattle.capi.proofs.Unchanged.{refused_unchanged, indexed_unchanged, gain_unchanged}
+use Rattle.capi.specs.Energies.{energies_bytes}
+use Rattle.capi.specs.Indexed.{gain_bytes}
+use Rattle.capi.proofs.Unchanged.{refused_unchanged, indexed_unchanged, erased_unchanged, gain_unchanged}
 use Rattle.gain.specs.Checks.{is_table}
 use Rattle.gain.specs.Call.{gain_call}
-use Rattle.mr74.specs.Indexed.{indexed_trace, indexed_call}
-use Rattle.applied.specs.Capi.{returned, unsent, lowest_sheet, unmet, untabled, unlisted, UnchangedApplied}
+use Rattle.mr74.specs.Indexed.{indexed_call}
+use Rattle.mr74.specs.Erased.{erased_call}
+use Rattle.applied.specs.Capi.{returned, unsent, lowest_sheet, unmet, untabled, lost, unlisted, UnchangedApplied}
 use Rattle.applied.specs.Refusals.{lowest}
 use Rattle.applied.proofs.Concrete.{bytes_by}
 
@@ -30,7 +32,7 @@ unfolding frame_bytes frame_call frame_trace call_outcome first_met
 unsent_places = refl
 
 unmet_code : unmet.code ≡ 16
-unfolding frame_bytes frame_call frame_trace call_outcome first_met first_outside first_close words bytes_of state_of core_of post_of
+unfolding frame_bytes frame_call frame_trace call_outcome first_met first_outside first_close words bytes_of state_of core_of post_of concealment_of
 unmet_code = refl
 
 -- another number than 0
@@ -42,8 +44,12 @@ module _ (sheet state : List ℕ) (n : ℕ) (bytes : Bytes state) (e : (returned
   unchanged = refused_unchanged sheet state (replicate 320 9) (replicate 88 0) (replicate 4 0) bytes (other _ n e)
 
 untabled_code : untabled.frame.code ≡ 7
-unfolding indexed_bytes indexed_call indexed_trace call_outcome is_table first_met first_outside first_close words bytes_of
+unfolding energies_bytes indexed_call call_outcome is_table first_met first_outside first_close words bytes_of
 untabled_code = refl
+
+lost_code : lost.frame.code ≡ 19 + 256 * 197
+unfolding energies_bytes erased_call call_outcome first_met first_outside first_close words bytes_of state_of core_of post_of concealment_of
+lost_code = refl
 
 unlisted_code : unlisted.code ≡ 8
 unfolding gain_bytes gain_call is_table first_met first_outside first_close words
@@ -55,9 +61,10 @@ unlisted_gains = refl
 
 pub unchanged_applied : UnchangedApplied
 unchanged_applied =
-    let a = unchanged [] (replicate 394 1) 0 (bytes_by (replicate 394 1) refl) unsent_code in
-    let b = unchanged lowest_sheet (replicate 394 255) 15 (bytes_by (replicate 394 255) refl) unmet_code in
-    let c = indexed_unchanged (bytes_of (lowest ++ replicate 168 (pos 0))) (replicate 394 0) (replicate 320 9) (replicate 88 0) (replicate 4 0) [] [] (replicate 8 7) (bytes_by (replicate 394 0) refl) (bytes_by (replicate 8 7) refl) (other _ 6 untabled_code) in
+    let a = unchanged [] (replicate 426 1) 0 (bytes_by (replicate 426 1) refl) unsent_code in
+    let b = unchanged lowest_sheet (replicate 426 255) 15 (bytes_by (replicate 426 255) refl) unmet_code in
+    let c = indexed_unchanged (bytes_of (lowest ++ replicate 168 (pos 0))) (replicate 426 0) (replicate 320 9) (replicate 88 0) (replicate 4 0) [] [] (replicate 8 7) (bytes_by (replicate 426 0) refl) (bytes_by (replicate 8 7) refl) (other _ 6 untabled_code) in
+    let e = erased_unchanged (bytes_of (lowest ++ replicate 161 (pos 0))) (replicate 426 0) (replicate 320 9) (replicate 88 0) (replicate 4 0) (replicate 8 7) (bytes_by (replicate 426 0) refl) (bytes_by (replicate 8 7) refl) (other _ _ lost_code) in
     let d = gain_unchanged (pos 128) (replicate 80 0) (replicate 66 0) (replicate 66 0) (replicate 8 7) (replicate 4 9) (bytes_by (replicate 8 7) refl) (other _ 7 unlisted_code) in
     record {
       unsent_code = unsent_code;
@@ -71,6 +78,10 @@ unchanged_applied =
       untabled_state = c.0;
       untabled_out = c.1;
       untabled_energies = c.2;
+      lost_code = lost_code;
+      lost_state = e.0;
+      lost_out = e.1;
+      lost_energies = e.2;
       unlisted_code = unlisted_code;
       unlisted_energies = d;
       unlisted_gains = unlisted_gains;

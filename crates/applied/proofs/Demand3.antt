@@ -1,7 +1,7 @@
 -- `demand_3` at the two calls of specs/Examples.antt: its premises are the fields of `example`, and each conclusion is a field of it, so that a field that
 -- says less, or a premise that asks more, is refused here. The call stays shut: nothing is computed. Assumes nothing.
 use mathlib.Core.Path.{◌≡◌, refl, sym, ap, ◌∙◌, subst}
-use mathlib.Core.Bool.{true}
+use mathlib.Core.Bool.{true, false}
 use mathlib.Core.List.{List, [], ◌∷◌, map}
 use Prim.Native.Nat.{ℕ}
 use native.Mathlib.Omega.{arith}
@@ -12,12 +12,14 @@ use Rattle.decoder.specs.Subframe.{flag_of}
 use Rattle.decoder.specs.Core.{SubframeResult, places_of}
 use Rattle.mr74.specs.Frame.{Trace}
 use Rattle.state.specs.declared.State.{State}
-use Rattle.calls.specs.Calls.{state_after, accepted}
+use Rattle.std.specs.Prelude.{Ok}
+use Rattle.state.specs.State.{WellFormed, state_outcome}
+use Rattle.calls.specs.Calls.{Call, trace_of, next_state, run_calls, state_after, accepted, any_accepted}
 use Rattle.demand3.specs.Measure.{Machine, held_samples}
 use Rattle.demand3.specs.Demand3.{AsMeasured, SubframesAsMeasured, AcceptedCall, RefusedCall, Demand3}
 use Rattle.demand3.proofs.Demand3.{demand_3}
 use Rattle.applied.specs.Examples.{silent, calls, Seen, expected}
-use Rattle.applied.specs.Demand3.{first, second, opened, after_call, last, AfterList, Lengths, Placed, Retried, Unretried, Subframes, FirstCall, SecondCall}
+use Rattle.applied.specs.Demand3.{first, second, opened, after_call, last, AfterList, Lengths, Placed, Retried, Unretried, Subframes, FirstCall, SecondCall, TwoCalls}
 use Rattle.applied.proofs.Examples.{example, refused_trace_lem}
 
 theorem : Demand3 silent calls
@@ -134,4 +136,29 @@ first_call =
       history = ap (λ (m : Machine). m.history) accepted_first.next;
       past = past;
       newest = ap (λ (xs : List ℤ). at xs 153) (sym past) ∙ ap (λ (e : Seen). e.newest) example.call;
+    }
+
+-- ---- a list that begins with an accepted call and a refused one
+pub two_calls : (s : State) → WellFormed s → state_outcome s ≡ Ok tt → (c d : Call) (cs : List Call) → accepted (trace_of s c) ≡ true → accepted (trace_of (next_state s c) d) ≡ false → TwoCalls s c d (state_after s (c ∷ d ∷ cs))
+unfolding run_calls any_accepted
+two_calls s w h c d cs y n =
+    let t = demand_3 s w h (c ∷ d ∷ cs) in
+    let a = t.calls.0 y in
+    let r = t.calls.1.1.1.0 n in
+    let any : any_accepted (run_calls s (c ∷ d ∷ cs)) ≡ true = rw y refl in
+    record {
+      sharpening = t.sharpening any;
+      gain = t.gain any;
+      accepts = y;
+      tilts = a.tilts;
+      divisors = a.divisors;
+      four = a.four;
+      places = a.places;
+      rows = a.rows;
+      history = ap (λ (m : Machine). m.history) a.next;
+      past = ap (λ (m : Machine). m.past) a.next;
+      refuses = n;
+      none = r.none;
+      machine = r.machine;
+      state = r.state;
     }

@@ -5,7 +5,7 @@ use lib.IntN.{pos}
 use lib.ListN.{length, replicate}
 use Rattle.outcome.specs.Outcome.{is_accepted}
 use Rattle.outcome.specs.Checks.{first_met, first_outside, first_close}
-use Rattle.state.specs.Layout.{core_of, post_of, state_of}
+use Rattle.state.specs.Layout.{core_of, post_of, concealment_of, state_of}
 use Rattle.mr74.specs.Checks.{frame_outcome, call_outcome}
 use Rattle.mr74.proofs.Divisions.{frame_divisions}
 use Rattle.applied.specs.Examples.{silent, loud, Seen}
@@ -13,7 +13,7 @@ use Rattle.applied.specs.Divisions.{DivisionsApplied}
 use Rattle.applied.proofs.Examples.{example}
 
 not_turned_back : is_accepted (frame_outcome loud silent (length (replicate 160 (pos 0)))) ≡ true
-unfolding call_outcome first_met first_outside first_close loud silent state_of core_of post_of
+unfolding call_outcome first_met first_outside first_close loud silent state_of core_of post_of concealment_of
 not_turned_back = refl
 
 pub divisions_applied : DivisionsApplied

@@ -2,11 +2,9 @@
 use mathlib.Core.Path.{◌≡◌, refl, ap}
 use mathlib.Core.Bool.{false, cond, ◌||◌}
 use mathlib.Core.List.{flat_map}
-use lib.IntN.{pos}
 use lib.ListN.{get_or}
 use Rattle.lists.specs.Lists.{iter, tab}
 use Rattle.basicop.specs.Ops.{clamp, asr, wrap, add, sub, mult, shl, l_add, l_sub, l_mult, l_shl, l_shr_r, l_deposit_h, doublings, norm_l, div_s, l_extract, mpy_32_16}
-use Rattle.basicop.proofs.Words.{zero_fits}
 use Rattle.pitch.specs.Lag.{absolute, lag_min, relative}
 use Rattle.spectral.specs.Lsp.{cosine, between, lsp_of}
 use Rattle.lpc.specs.Rows.{raised_at, polynomial, row_of, rows_of}
@@ -27,24 +25,25 @@ use Rattle.postfilter.specs.Preemphasis.{preemphasised}
 use Rattle.postfilter.specs.Postfilter.{filter_result, postfilter_result}
 use Rattle.outcome.specs.Checks.{first_met, first_outside, first_close}
 use Rattle.state.specs.State.{WellFormed, state_outcome}
-use Rattle.state.specs.Layout.{core_of, post_of, state_of}
+use Rattle.state.specs.Layout.{core_of, post_of, concealment_of, state_of}
 use Rattle.mr74.specs.Checks.{call_outcome}
+use Rattle.gain_concealment.specs.Concealment.{updated, good_gains}
+use Rattle.mr74.specs.Sheet.{frame_prepared}
 use Rattle.mr74.specs.Frame.{frame_trace}
 use Rattle.calls.specs.Calls.{trace_of, run_calls, any_accepted, latest_place}
-use Rattle.applied.specs.Examples.{silent, loud, call, Seen, seen, expected, Example, RefusedTrace}
-use Rattle.applied.specs.Handover.{state_with}
-use Rattle.applied.proofs.Concrete.{with_well_formed}
+use Rattle.applied.specs.Examples.{silent_numbers, silent, loud, call, Seen, seen, expected, Example, RefusedTrace}
+use Rattle.applied.proofs.Concrete.{numbers_well_formed, words_by}
 
 silent_well_formed : WellFormed silent
-unfolding silent state_with state_of core_of post_of
-silent_well_formed = with_well_formed (pos 0) (pos 0) zero_fits zero_fits
+unfolding silent
+silent_well_formed = numbers_well_formed silent_numbers (words_by silent_numbers 213 refl refl)
 
 seen_is : seen (trace_of silent call) ≡ expected
-unfolding flat_map iter tab clamp asr wrap add sub mult shl l_add l_sub l_mult l_shl l_shr_r l_deposit_h doublings norm_l div_s l_extract mpy_32_16 absolute lag_min relative cosine between lsp_of raised_at polynomial row_of rows_of inter6 phase start interpolated extended predicted sharpened sharpening feedback squares energy energy_gain agc2 inverse_table root_scaled inverse_root outside recursion step_numbers some_outside some_list_outside first_list_outside acc accs enhanced first_excitation synthesis_result excitations subframe_result subframe_results core_result first_met state_of core_of post_of first_outside first_close call_outcome frame_trace loud silent numerator denominator weighted residual_sum residual tilts.impulse tilts.correlation tilts.tilt_of tilts.tilt preemphasised filter_result postfilter_result agc controlled
+unfolding flat_map iter tab clamp asr wrap add sub mult shl l_add l_sub l_mult l_shl l_shr_r l_deposit_h doublings norm_l div_s l_extract mpy_32_16 absolute lag_min relative cosine between lsp_of raised_at polynomial row_of rows_of inter6 phase start interpolated extended predicted sharpened sharpening feedback squares energy energy_gain agc2 inverse_table root_scaled inverse_root outside recursion step_numbers some_outside some_list_outside first_list_outside acc accs enhanced first_excitation synthesis_result excitations subframe_result subframe_results core_result first_met state_of core_of post_of concealment_of updated good_gains frame_prepared first_outside first_close call_outcome frame_trace loud silent numerator denominator weighted residual_sum residual tilts.impulse tilts.correlation tilts.tilt_of tilts.tilt preemphasised filter_result postfilter_result agc controlled
 seen_is = refl
 
 pub example : Example
-unfolding silent state_of core_of post_of state_outcome first_met frame_trace call_outcome run_calls any_accepted latest_place
+unfolding silent state_of core_of post_of concealment_of state_outcome first_met first_outside frame_trace call_outcome run_calls any_accepted latest_place
 example =
     record {
       well_formed = silent_well_formed;

@@ -1,34 +1,34 @@
 -- `read_back`, `same_outcome` and `same_rest` at concrete records: the reader stays shut, and its premises are computed from the state or from the bytes.
 -- Assumes nothing.
 use mathlib.Core.Path.{◌≡◌, refl, sym, ap, ◌∙◌}
+use mathlib.Core.Bool.{true}
 use mathlib.Core.List.{List, [], ◌++◌}
 use Prim.Native.Nat.{ℕ}
-use lib.Dec.{lit<}
 use lib.IntN.{ℤ, pos}
-use mir.Syntax.{w16}
-use mir.Val.{SFits}
 use Rattle.lists.specs.Lists.{minus}
-use Rattle.basicop.proofs.Words.{zero_fits}
+use Rattle.basicop.specs.Words.{Words}
 use Rattle.std.specs.Prelude.{Ok, Err}
-use Rattle.outcome.specs.declared.Refusal.TheVariants.{Sharpening, SmoothedGain}
+use Rattle.outcome.specs.declared.Refusal.TheVariants.{Sharpening, SmoothedGain, GainField, LastLag}
 use Rattle.outcome.specs.Outcome.{is_accepted}
-use Rattle.outcome.specs.Checks.{first_met}
+use Rattle.outcome.specs.Checks.{first_met, first_outside}
 use Rattle.state.specs.declared.State.{State}
 use Rattle.state.specs.State.{WellFormed, state_outcome}
-use Rattle.state.specs.Layout.{core_numbers, core_of, post_numbers, post_of, numbers_of, state_of}
+use Rattle.state.specs.Layout.{core_numbers, core_of, post_numbers, post_of, concealment_numbers, concealment_of, numbers_of, state_of}
+use Rattle.coding.specs.Body.{missing}
 use Rattle.coding.specs.Bytes.{bytes_of, Bytes}
-use Rattle.record.specs.Record.{ReadResult, version_of, read_call, encoded}
-use Rattle.record.proofs.Handover.{read_back, same_outcome, same_rest}
+use Rattle.record.specs.Record.{ReadResult, first, trailer_bytes, read_result, version_of, read_call, encoded}
+use Rattle.record.proofs.Handover.{read_back, same_outcome, first_read, first_outcome, same_rest}
 use Rattle.calls.specs.Calls.{state_after}
 use Rattle.applied.specs.Examples.{silent, calls}
-use Rattle.applied.specs.Handover.{silent_record, note, Read, ReadApplied, state_with, TurnedBack, RestApplied}
-use Rattle.applied.proofs.Concrete.{with_well_formed, bytes_by}
+use Rattle.applied.specs.Handover.{silent_record, note, Read, ReadApplied, signal_with, state_with, losing_numbers, state_losing, TurnedBack, first_record, FirstApplied, RestApplied}
+use Rattle.applied.specs.Listing.{zero_record}
+use Rattle.applied.proofs.Concrete.{all_fit, words_by, numbers_well_formed, bytes_by}
 use Rattle.applied.proofs.Examples.{example}
 use Rattle.applied.proofs.Calls.{calls_applied}
 
 -- ---- read_back
 written : encoded silent ≡ silent_record
-unfolding encoded bytes_of numbers_of core_numbers post_numbers silent state_of core_of post_of silent_record
+unfolding encoded bytes_of numbers_of core_numbers post_numbers concealment_numbers silent state_of core_of post_of concealment_of silent_record
 written = refl
 
 module _ (s : State) (w : WellFormed s) (a : state_outcome s ≡ Ok tt) (n : List ℕ) where
@@ -57,35 +57,79 @@ read_applied =
     }
 
 -- ---- same_outcome
-turned : (x g : ℤ) (n : List ℕ) → SFits w16 x → SFits w16 g → (read_call (n ++ encoded (state_with x g))).answer.outcome ≡ state_outcome (state_with x g)
-turned x g n f h = same_outcome (state_with x g) (with_well_formed x g f h) n
+turned : (numbers : List ℤ) → Words 213 numbers → (n : List ℕ) → (read_call (n ++ encoded (state_of numbers))).answer.outcome ≡ state_outcome (state_of numbers)
+turned numbers f n = same_outcome (state_of numbers) (numbers_well_formed numbers f) n
 
-sharp : state_outcome (state_with (pos 13018) (pos 0)) ≡ Err Sharpening
-unfolding state_with state_of core_of post_of state_outcome first_met
-sharp = refl
+with_signal : (x g : ℤ) → all_fit (signal_with x g ++ missing) ≡ true → (n : List ℕ) → (read_call (n ++ encoded (state_with x g))).answer.outcome ≡ state_outcome (state_with x g)
+unfolding state_with
+with_signal x g e n = turned (signal_with x g ++ missing) (words_by _ 213 refl e) n
 
-low : state_outcome (state_with (pos 13017) (minus 1)) ≡ Err SmoothedGain
-unfolding state_with state_of core_of post_of state_outcome first_met
-low = refl
+losing : (lag pitch code mark : ℤ) → all_fit (losing_numbers lag pitch code mark) ≡ true → (n : List ℕ)
+    → (read_call (n ++ encoded (state_losing lag pitch code mark))).answer.outcome ≡ state_outcome (state_losing lag pitch code mark)
+unfolding state_losing
+losing lag pitch code mark e n = turned (losing_numbers lag pitch code mark) (words_by _ 213 refl e) n
 
-two : state_outcome (state_with (minus 1) (minus 1)) ≡ Err Sharpening
-unfolding state_with state_of core_of post_of state_outcome first_met
-two = refl
+-- what the state's checks come to
+record Outcomes : Type 0 where
+  sharp : state_outcome (state_with (pos 13018) (pos 0)) ≡ Err Sharpening
+  low : state_outcome (state_with (pos 13017) (minus 1)) ≡ Err SmoothedGain
+  two : state_outcome (state_with (minus 1) (minus 1)) ≡ Err Sharpening
+  both : state_outcome (state_with (pos 13018) (minus 1)) ≡ Err Sharpening
+  none : state_outcome (state_with (pos 13017) (pos 32767)) ≡ Ok tt
+  good : state_outcome (state_losing (pos 145) (pos 0) (minus 1) (pos 2)) ≡ Err (GainField 211)
+  mark : state_outcome (state_losing (pos 145) (pos 0) (pos 0) (pos 2)) ≡ Err (GainField 212)
+  lag : state_outcome (state_losing (pos 145) (pos 0) (pos 0) (pos 1)) ≡ Err LastLag
+  lost : state_outcome (state_losing (pos 144) (pos 32767) (pos 32767) (pos 1)) ≡ Ok tt
 
-none : state_outcome (state_with (pos 13017) (pos 32767)) ≡ Ok tt
-unfolding state_with state_of core_of post_of state_outcome first_met
-none = refl
-
-one_fits : SFits w16 (minus 1)
-one_fits = record { sfits = lit< tt }
+outcomes : Outcomes
+unfolding state_with state_losing state_of core_of post_of concealment_of state_outcome first_met first_outside
+outcomes = record { sharp = refl; low = refl; two = refl; both = refl; none = refl; good = refl; mark = refl; lag = refl; lost = refl }
 
 pub turned_back : TurnedBack
 turned_back =
     record {
-      sharpening = turned (pos 13018) (pos 0) note (record { sfits = lit< tt }) zero_fits ∙ sharp;
-      gain = turned (pos 13017) (minus 1) [] (record { sfits = lit< tt }) one_fits ∙ low;
-      both = turned (minus 1) (minus 1) [] one_fits one_fits ∙ two;
-      neither = turned (pos 13017) (pos 32767) note (record { sfits = lit< tt }) (record { sfits = lit< tt }) ∙ none;
+      sharpening = with_signal (pos 13018) (pos 0) refl note ∙ outcomes.sharp;
+      gain = with_signal (pos 13017) (minus 1) refl [] ∙ outcomes.low;
+      both = with_signal (minus 1) (minus 1) refl [] ∙ outcomes.two;
+      neither = with_signal (pos 13017) (pos 32767) refl note ∙ outcomes.none;
+      good = losing (pos 145) (pos 0) (minus 1) (pos 2) refl [] ∙ outcomes.good;
+      mark = losing (pos 145) (pos 0) (pos 0) (pos 2) refl note ∙ outcomes.mark;
+      lag = losing (pos 145) (pos 0) (pos 0) (pos 1) refl [] ∙ outcomes.lag;
+      lost = losing (pos 144) (pos 32767) (pos 32767) (pos 1) refl note ∙ outcomes.lost;
+    }
+
+-- ---- first_read, first_outcome
+zeros_are : first_record (pos 0) (pos 0) ≡ zero_record
+unfolding first_record bytes_of
+zeros_are = refl
+
+as_first : (x g : ℤ) → first_record x g ≡ bytes_of (signal_with x g) ++ trailer_bytes first
+unfolding first_record bytes_of
+as_first x g = refl
+
+first_of : (n : List ℕ) → Read (n ++ zero_record) silent n
+unfolding silent
+first_of n =
+    let e = first_read (signal_with (pos 0) (pos 0)) (words_by _ 197 refl refl) example.state n in
+    let f : read_call (n ++ zero_record) ≡ read_result (record { outcome = Ok tt; state = silent }) n =
+    ap (λ (b : List ℕ). read_call (n ++ b)) (sym zeros_are ∙ as_first (pos 0) (pos 0)) ∙ e in
+    record {
+      outcome = ap (λ (r : ReadResult). r.answer.outcome) f;
+      state = ap (λ (r : ReadResult). r.answer.state) f;
+      note = ap (λ (r : ReadResult). r.note) f;
+    }
+
+pub first_applied : FirstApplied
+unfolding state_with
+first_applied =
+    record {
+      zeros = zeros_are;
+      bare = first_of [];
+      noted = first_of note;
+      sharpening =
+          ap (λ (b : List ℕ). (read_call (note ++ b)).answer.outcome) (as_first (pos 13018) (minus 1))
+          ∙ first_outcome (signal_with (pos 13018) (minus 1)) (words_by _ 197 refl refl) note
+          ∙ outcomes.both;
     }
 
 -- ---- same_rest

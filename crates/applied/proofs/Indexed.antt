@@ -2,7 +2,7 @@
 -- `demand_3`, applied. Assumes nothing.
 use mathlib.Core.Path.{◌≡◌, refl, ap}
 use mathlib.Core.Bool.{true, false}
-use mathlib.Core.List.{◌∷◌}
+use mathlib.Core.List.{[], ◌∷◌}
 use lib.Dec.{lit<}
 use Rattle.std.specs.Prelude.{Ok}
 use Rattle.lists.specs.Lists.{iter}
@@ -12,7 +12,8 @@ use Rattle.excitation.specs.Excitation.{sharpened, sharpening}
 use Rattle.energy.specs.Energy.{squares}
 use Rattle.outcome.specs.Outcome.{is_accepted}
 use Rattle.outcome.specs.Checks.{first_met, first_outside, first_close}
-use Rattle.state.specs.Layout.{core_of, post_of, state_of}
+use Rattle.gain_concealment.specs.Concealment.{updated, good_gains}
+use Rattle.state.specs.Layout.{core_of, post_of, concealment_of, state_of}
 use Rattle.logarithm.specs.Log2.{log2}
 use Rattle.logarithm.specs.Pow2.{pow2}
 use Rattle.gain_table.specs.Rows.{gain_table, gain_row}
@@ -22,28 +23,26 @@ use Rattle.gain.specs.Checks.{is_table}
 use Rattle.mr74.specs.Checks.{indexed_outcome, call_outcome}
 use Rattle.mr74.specs.declared.FrameAnswer.{FrameAnswer}
 use Rattle.mr74.specs.Frame.{frame_call}
-use Rattle.mr74.specs.Indexed.{decoded_sheet, indexed_inputs, indexed_trace, indexed_call, SameAsFrame}
+use Rattle.mr74.specs.Indexed.{decoded_sheet, indexed_prepared, opened_memory, indexed_trace, indexed_call, SameAsFrame}
 use Rattle.mr74.proofs.IndexPassed.{accepted_indexed}
 use Rattle.mr74.proofs.Indexed.{indexed_is_frame}
-use Rattle.calls.specs.Calls.{run_calls, any_accepted, accepted}
-use Rattle.demand3.specs.Measure.{Machine}
-use Rattle.demand3.specs.Demand3.{Demand3}
-use Rattle.demand3.proofs.Demand3.{demand_3}
+use Rattle.calls.specs.Calls.{trace_of, next_state, accepted}
 use Rattle.applied.specs.Examples.{silent}
 use Rattle.applied.specs.Gains.{log_table, pow_table}
-use Rattle.applied.specs.Indexed.{index_sheet, out, indexed, gains_sheet, energies_left, IndexedValues, IndexedApplied, index_ordered, IndexOrder, index_calls, first, second, IndexedDemand3}
+use Rattle.applied.specs.Indexed.{index_sheet, out, indexed, gains_sheet, energies_left, IndexedValues, IndexedApplied, index_ordered, IndexOrder, index_call, tableless_call, IndexedDemand3}
 use Rattle.applied.proofs.Examples.{example}
+use Rattle.applied.proofs.Demand3.{two_calls}
 
 index_accepted : indexed_outcome log_table pow_table index_sheet silent 160 ≡ Ok tt
-unfolding silent index_sheet log_table pow_table state_of core_of post_of first_met first_outside first_close is_table call_outcome
+unfolding silent index_sheet log_table pow_table state_of core_of post_of concealment_of first_met first_outside first_close is_table call_outcome
 index_accepted = refl
 
 sheet_is : decoded_sheet log_table pow_table opening_energies index_sheet silent ≡ gains_sheet
-unfolding iter clamp asr wrap add sub mult shl l_add l_sub l_mult l_shl l_shr_r l_deposit_h doublings norm_l l_extract mpy_32_16 absolute lag_min relative sharpened sharpening squares log2 pow2 gain_table gain_row predicted_gain code_gain decoded_gains state_of core_of post_of indexed_inputs silent index_sheet gains_sheet log_table pow_table
+unfolding iter clamp asr wrap add sub mult shl l_add l_sub l_mult l_shl l_shr_r l_deposit_h doublings norm_l l_extract mpy_32_16 absolute lag_min relative sharpened sharpening squares log2 pow2 gain_table gain_row predicted_gain code_gain decoded_gains state_of core_of post_of concealment_of updated good_gains silent index_sheet gains_sheet log_table pow_table
 sheet_is = refl
 
-energies_are : (indexed_inputs log_table pow_table index_sheet (record { sharpening = silent.core.sharpening; gain_decoder = record { energies = opening_energies } })).memory.gain_decoder.energies ≡ energies_left
-unfolding gain_table gain_row decoded_gains indexed_inputs silent index_sheet
+energies_are : (indexed_prepared log_table pow_table index_sheet silent.concealment (opened_memory opening_energies silent)).energies ≡ energies_left
+unfolding gain_table gain_row decoded_gains indexed_prepared silent index_sheet
 energies_are = refl
 
 pub indexed_values : IndexedValues
@@ -71,42 +70,17 @@ indexed_applied =
     }
 
 pub index_order : IndexOrder
-unfolding index_ordered log_table pow_table state_of core_of post_of first_met first_outside first_close is_table call_outcome
+unfolding index_ordered log_table pow_table state_of core_of post_of concealment_of first_met first_outside first_close is_table call_outcome
 index_order = refl
 
 -- ---- demand 3
-theorem : Demand3 silent index_calls
-theorem = demand_3 silent example.well_formed example.state index_calls
-
-first_accepted : accepted first ≡ true
+first_accepted : accepted (trace_of silent index_call) ≡ true
 unfolding indexed_trace
 first_accepted = rw index_accepted refl
 
-second_refused : accepted second ≡ false
+second_refused : accepted (trace_of (next_state silent index_call) tableless_call) ≡ false
 unfolding indexed_trace call_outcome first_met first_outside first_close is_table index_sheet
 second_refused = refl
 
-any : any_accepted (run_calls silent index_calls) ≡ true
-unfolding run_calls any_accepted
-any = rw first_accepted refl
-
 pub indexed_demand_3 : IndexedDemand3
-indexed_demand_3 =
-    let a = theorem.calls.0 first_accepted in
-    let r = theorem.calls.1.1.1.0 second_refused in
-    record {
-      sharpening = theorem.sharpening any;
-      gain = theorem.gain any;
-      first_accepted = first_accepted;
-      tilts = a.tilts;
-      divisors = a.divisors;
-      four = a.four;
-      places = a.places;
-      rows = a.rows;
-      history = ap (λ (m : Machine). m.history) a.next;
-      past = ap (λ (m : Machine). m.past) a.next;
-      second_refused = second_refused;
-      none = r.none;
-      machine = r.machine;
-      state = r.state;
-    }
+indexed_demand_3 = two_calls silent example.well_formed example.state index_call tableless_call [] first_accepted second_refused

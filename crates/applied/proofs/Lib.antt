@@ -6,6 +6,7 @@ pub mod Refusals
 pub mod Gains
 pub mod Indexed
 pub mod Demand3
+pub mod Erased
 pub mod Divisions
 pub mod Calls
 pub mod Handover

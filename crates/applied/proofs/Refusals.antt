@@ -5,21 +5,25 @@ use mathlib.Core.List.{List, ◌∷◌}
 use native.Mathlib.Omega.{arith}
 use lib.ListN.{get_or}
 use Rattle.outcome.specs.Checks.{first_met, first_outside, first_close}
-use Rattle.state.specs.Layout.{core_of, post_of, state_of}
+use Rattle.state.specs.Layout.{core_of, post_of, concealment_of, state_of}
 use Rattle.mr74.specs.Checks.{call_outcome}
 use Rattle.mr74.proofs.Passed.{accepted_gaps}
-use Rattle.applied.specs.Refusals.{Refusal, refused, ordered, FrameOrder, placed, Places, close, GapPlaces, RefusalsApplied}
+use Rattle.applied.specs.Refusals.{Refusal, refused, ordered, FrameOrder, placed, Places, field_places, FieldPlaces, close, GapPlaces, RefusalsApplied}
 
 pub frame_order : FrameOrder
-unfolding ordered state_of core_of post_of first_met first_outside first_close call_outcome
+unfolding ordered state_of core_of post_of concealment_of first_met first_outside first_close call_outcome
 frame_order = refl
 
 pub places : Places
-unfolding placed state_of core_of post_of first_met first_outside first_close call_outcome
+unfolding placed state_of core_of post_of concealment_of first_met first_outside first_close call_outcome
 places = refl
 
+pub field_places_lem : FieldPlaces
+unfolding field_places state_of core_of post_of concealment_of first_met first_outside first_close call_outcome
+field_places_lem = refl
+
 pub gap_places : GapPlaces
-unfolding close state_of core_of post_of first_met first_outside first_close call_outcome
+unfolding close state_of core_of post_of concealment_of first_met first_outside first_close call_outcome
 gap_places = refl
 
 pub refusals_applied : RefusalsApplied

@@ -11,7 +11,7 @@ use lib.Signed.{◌≤ℤ◌, ◌<ℤ◌}
 use Rattle.lists.specs.Lists.{one_if, minus}
 use Rattle.outcome.specs.Checks.{first_met, first_outside, first_close}
 use Rattle.state.specs.State.{state_outcome}
-use Rattle.state.specs.Layout.{core_of, post_of, state_of}
+use Rattle.state.specs.Layout.{core_of, post_of, concealment_of, state_of}
 use Rattle.coding.specs.Bytes.{words}
 use Rattle.record.specs.Record.{read_call, record_outcome}
 use Rattle.mr74.specs.Checks.{call_outcome}
@@ -46,11 +46,11 @@ mean_is = refl
 
 -- with the refused sheet's own trace
 step_is : totals_of (two ++ (calls.trace_of silent (call_of bad_sheet) ∷ [])) ≡ expected
-unfolding one_if retried_in square_sum accepted_count refused_count retried_total square_total peak_total largest peak_of frame_trace call_outcome first_met first_outside first_close words silent state_of core_of post_of
+unfolding one_if retried_in square_sum accepted_count refused_count retried_total square_total peak_total largest peak_of frame_trace call_outcome first_met first_outside first_close words silent state_of concealment_of core_of post_of
 step_is = refl
 
 alone_is : report_output zero_record ≡ ascii "0 0 0 0 none\n"
-unfolding report_output read_call record_outcome first_met state_outcome state_of core_of post_of sheet_traces whole_sheets sheets_of run_calls accepted_count refused_count retried_total square_total peak_total report_line mean_field decimal spelled ascii words
+unfolding report_output read_call record_outcome first_met state_outcome state_of concealment_of core_of post_of sheet_traces whole_sheets sheets_of run_calls accepted_count refused_count retried_total square_total peak_total report_line mean_field decimal spelled ascii words first_outside
 alone_is = refl
 
 none_refused : report_output [] ≡ ascii "state refused 11\n"

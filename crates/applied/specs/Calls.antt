@@ -12,7 +12,7 @@ between = state_after silent (call ∷ [])
 pub record CallsApplied : Type 0 where
   -- next_refused
   pub refused : next_state silent empty_call ≡ silent
-  -- next_well_formed, next_accepted
+  -- NextWellFormed, NextAccepted
   pub next_well_formed : WellFormed (next_state silent call)
   pub next_accepted : state_outcome (next_state silent call) ≡ Ok tt
   -- list_well_formed, list_accepted

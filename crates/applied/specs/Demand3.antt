@@ -8,7 +8,7 @@ use Rattle.decoder.specs.Subframe.{flag_of}
 use Rattle.decoder.specs.Core.{SubframeResult}
 use Rattle.state.specs.declared.State.{State}
 use Rattle.mr74.specs.Frame.{Trace}
-use Rattle.calls.specs.Calls.{trace_of, state_after}
+use Rattle.calls.specs.Calls.{Call, trace_of, next_state, state_after, accepted}
 use Rattle.demand3.specs.Measure.{Machine, held_samples, quarters, takes_in, machine_after_subframe, machine_after_subframes}
 use Rattle.applied.specs.Examples.{silent, call, empty_call, calls}
 
@@ -19,8 +19,11 @@ first = trace_of silent call
 abbrev pub second : Trace
 second = trace_of first.next empty_call
 
+abbrev pub opened_by : State → Machine
+opened_by s = record { history = s.core.history; past = s.core.past }
+
 abbrev pub opened : Machine
-opened = record { history = silent.core.history; past = silent.core.past }
+opened = opened_by silent
 
 -- after one subframe, and after a call's
 abbrev pub after_one : Machine → SubframeResult → Machine
@@ -107,3 +110,27 @@ pub record SecondCall : Type 0 where
   pub no_quotient : second.quotients ≡ []
   pub machine : after_call (after_call opened first) second ≡ after_call opened first
   pub state : second.next ≡ first.next
+
+-- ---- the same of any list that begins with an accepted call c and a refused one d, of other kinds too (Indexed.antt, Erased.antt)
+pub record TwoCalls (s : State) (c d : Call) (after : State) : Type 0 where
+  -- the state after the list
+  pub sharpening : (pos 0 ≤ℤ after.core.sharpening.0) × (after.core.sharpening.0 ≤ℤ pos 13017)
+  pub gain : (pos 0 ≤ℤ after.post.gain.previous_gain) × (after.post.gain.previous_gain ≤ℤ pos 32765)
+  -- the accepted call
+  pub accepts : accepted (trace_of s c) ≡ true
+  pub tilts : (length (trace_of s c).tilts ≡ 4) × Every (λ (t : ℤ). (pos 0 ≤ℤ t) × (t ≤ℤ pos 26214)) (trace_of s c).tilts
+  pub divisors : Every (λ (q : Quotient). ¬ (q.divisor ≡ pos 0)) (trace_of s c).quotients
+  pub four : length (trace_of s c).subframes ≡ 4
+  pub places : (trace_of s c).places ≡ map (λ (u : SubframeResult). u.synthesis.place) (trace_of s c).subframes
+  pub rows :
+      let rows = (trace_of s c).rows in
+      map (λ (u : SubframeResult). u.input.row) (trace_of s c).subframes ≡ rows.a ∷ rows.b ∷ rows.c ∷ rows.d ∷ []
+  pub history : (next_state s c).core.history ≡ (after_call (opened_by s) (trace_of s c)).history
+  pub past : (next_state s c).core.past ≡ (after_call (opened_by s) (trace_of s c)).past
+  -- the refused one
+  pub refuses : accepted (trace_of (next_state s c) d) ≡ false
+  pub none : (trace_of (next_state s c) d).subframes ≡ []
+  pub machine :
+      let m = after_call (opened_by s) (trace_of s c) in
+      after_call m (trace_of (next_state s c) d) ≡ m
+  pub state : next_state (next_state s c) d ≡ next_state s c

@@ -9,12 +9,16 @@ use Rattle.state.specs.declared.State.{State}
 use Rattle.outcome.specs.declared.Refusal.TheVariants.{SheetLength}
 use Rattle.state.specs.State.{WellFormed, state_outcome}
 use Rattle.state.specs.Layout.{state_of}
+use Rattle.coding.specs.Body.{missing}
 use Rattle.mr74.specs.Frame.{Trace}
 use Rattle.calls.specs.Calls.{Call, FrameCall, trace_of, run_calls, accepted, any_accepted, latest_place}
 
--- 197 zeros
+-- what a version 1 record of zeros is read as: zeros but for the last lag, 40
+abbrev pub silent_numbers : List ℤ
+silent_numbers = replicate 197 (pos 0) ++ missing
+
 unfoldable pub silent : State
-silent = state_of (replicate 197 (pos 0))
+silent = state_of silent_numbers
 
 -- LSFs at even distances; pitch indices 5, 31, 7, 0; pitch gains 1 (Q14), and the greatest code gain in the last subframe; the same innovation throughout
 unfoldable pub loud : List ℤ

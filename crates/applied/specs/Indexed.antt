@@ -1,19 +1,17 @@
 -- A frame call of an index sheet, computed; the theorems of mr74/specs/Indexed.antt applied to it; and demand 3 applied to a list that begins with it, from the
 -- state `silent`. The theorems are in proofs/Indexed.antt.
-use Rattle.std.specs.Prelude.{◌≡◌, Ok, true, false, List, [], ◌∷◌, ◌++◌, map, ℕ, ℤ, pos, ◌+ℤ◌, length, replicate, set, ◌≤ℤ◌}
-use Rattle.lists.specs.Lists.{at, Every}
-use Rattle.basicop.specs.Ops.{Quotient}
-use Rattle.decoder.specs.Core.{SubframeResult}
+use Rattle.std.specs.Prelude.{◌≡◌, Ok, true, List, [], ◌∷◌, ◌++◌, ℕ, ℤ, pos, ◌+ℤ◌, replicate, set, ◌≤ℤ◌}
+use Rattle.lists.specs.Lists.{at}
 use Rattle.state.specs.declared.State.{State}
 use Rattle.outcome.specs.Outcome.{number_of, place_of, is_accepted}
 use Rattle.gain.specs.Call.{opening_energies}
 use Rattle.mr74.specs.Checks.{frame_outcome, indexed_outcome}
-use Rattle.mr74.specs.Frame.{Trace, frame_trace, frame_call}
-use Rattle.mr74.specs.Indexed.{decoded_sheet, indexed_trace, IndexedResult, indexed_call}
+use Rattle.mr74.specs.Frame.{frame_trace, frame_call, EnergiesResult}
+use Rattle.mr74.specs.Indexed.{decoded_sheet, indexed_trace, indexed_call}
 use Rattle.state.specs.Layout.{state_of}
-use Rattle.calls.specs.Calls.{Call, IndexCall, trace_of, state_after, accepted}
-use Rattle.applied.specs.Examples.{silent}
-use Rattle.applied.specs.Demand3.{opened, after_call}
+use Rattle.calls.specs.Calls.{Call, IndexCall, state_after}
+use Rattle.applied.specs.Examples.{silent, silent_numbers}
+use Rattle.applied.specs.Demand3.{TwoCalls}
 use Rattle.applied.specs.Gains.{log_table, pow_table, falling, negative}
 use Rattle.applied.specs.Refusals.{Refusal, refused, zeros_then, lowest}
 
@@ -34,7 +32,7 @@ index_sheet = frequencies ++ (pitch_indices ++ ((pos 121 ∷ pos 63 ∷ pos 92 �
 abbrev pub out : List ℤ
 out = replicate 160 (pos 0)
 
-abbrev pub indexed : IndexedResult
+abbrev pub indexed : EnergiesResult
 indexed = indexed_call log_table pow_table opening_energies index_sheet silent out
 
 -- the frame sheet with the gains so obtained
@@ -71,7 +69,7 @@ pub record IndexedApplied : Type 0 where
   pub indices :
       (sheet logs pows : List ℤ) (s : State) → is_accepted (indexed_outcome logs pows sheet s 160) ≡ true → (pos 0 ≤ℤ at sheet 14) × (at sheet 17 ≤ℤ pos 127)
 
--- ---- the order 1, 5, 2, 6, 3, 7, 8, 16, 17: each call meets its check and all those after it; the last meets none
+-- ---- the order 1, 5, 2, 6, 3, 7, 8, 16 to 19: each call meets its check and all those after it; the last meets none
 abbrev pub refusal_with : List ℤ → List ℤ → List ℤ → List ℤ → ℕ → Refusal
 refusal_with logs pows sheet numbers room =
     let o = indexed_outcome logs pows sheet (state_of numbers) room in
@@ -79,26 +77,28 @@ refusal_with logs pows sheet numbers room =
 
 unfoldable pub index_ordered : List Refusal
 index_ordered =
-    refusal_with negative falling (zeros_then 0 182) (zeros_then 0 197) 159
-    ∷ refusal_with negative falling (zeros_then 0 178) (zeros_then 0 197) 159
-    ∷ refusal_with negative falling (zeros_then 0 178) (zeros_then 0 197) 160
-    ∷ refusal_with negative falling (zeros_then 10 178) (zeros_then 0 197) 160
-    ∷ refusal_with negative falling (lowest ++ zeros_then 0 168) (zeros_then 0 197) 160
-    ∷ refusal_with negative falling (lowest ++ zeros_then 4 168) (zeros_then 0 197) 160
-    ∷ refusal_with log_table falling (lowest ++ zeros_then 4 168) (zeros_then 0 197) 160
-    ∷ refusal_with log_table pow_table (lowest ++ zeros_then 4 168) (zeros_then 0 197) 160
-    ∷ refusal_with log_table pow_table (lowest ++ zeros_then 7 168) (zeros_then 0 197) 160
-    ∷ refusal_with log_table pow_table (lowest ++ (replicate 6 (pos 0) ++ (pos 128 ∷ replicate 161 (pos 0)))) (zeros_then 0 197) 160
-    ∷ refusal_with log_table pow_table (lowest ++ zeros_then 8 168) (zeros_then 0 197) 160
-    ∷ refusal_with log_table pow_table (lowest ++ zeros_then 8 168) (zeros_then 165 197) 160
-    ∷ refusal_with log_table pow_table (lowest ++ zeros_then 8 168) (zeros_then 197 197) 160
+    refusal_with negative falling (zeros_then 0 182) (zeros_then 0 213) 159
+    ∷ refusal_with negative falling (zeros_then 0 178) (zeros_then 0 213) 159
+    ∷ refusal_with negative falling (zeros_then 0 178) (zeros_then 0 213) 160
+    ∷ refusal_with negative falling (zeros_then 10 178) (zeros_then 0 213) 160
+    ∷ refusal_with negative falling (lowest ++ zeros_then 0 168) (zeros_then 0 213) 160
+    ∷ refusal_with negative falling (lowest ++ zeros_then 4 168) (zeros_then 0 213) 160
+    ∷ refusal_with log_table falling (lowest ++ zeros_then 4 168) (zeros_then 0 213) 160
+    ∷ refusal_with log_table pow_table (lowest ++ zeros_then 4 168) (zeros_then 0 213) 160
+    ∷ refusal_with log_table pow_table (lowest ++ zeros_then 7 168) (zeros_then 0 213) 160
+    ∷ refusal_with log_table pow_table (lowest ++ (replicate 6 (pos 0) ++ (pos 128 ∷ replicate 161 (pos 0)))) (zeros_then 0 213) 160
+    ∷ refusal_with log_table pow_table (lowest ++ zeros_then 8 168) (zeros_then 0 213) 160
+    ∷ refusal_with log_table pow_table (lowest ++ zeros_then 8 168) (zeros_then 165 213) 160
+    ∷ refusal_with log_table pow_table (lowest ++ zeros_then 8 168) (zeros_then 197 213) 160
+    ∷ refusal_with log_table pow_table (lowest ++ zeros_then 8 168) (zeros_then 213 213) 160
+    ∷ refusal_with log_table pow_table (lowest ++ zeros_then 8 168) silent_numbers 160
     ∷ []
 
 abbrev pub IndexOrder : Type 0
 IndexOrder =
     index_ordered
     ≡ refused 1 0 ∷ refused 5 0 ∷ refused 2 0 ∷ refused 6 0 ∷ refused 3 0 ∷ refused 7 0 ∷ refused 7 1 ∷ refused 8 0 ∷ refused 8 3 ∷ refused 8 2
-    ∷ refused 16 0 ∷ refused 17 0 ∷ refused 0 0 ∷ []
+    ∷ refused 16 0 ∷ refused 17 0 ∷ refused 18 198 ∷ refused 19 197 ∷ refused 0 0 ∷ []
 
 -- ---- demand 3, of a list with two index calls: this one, and one whose tables have no number and whose energies are others, which is refused
 abbrev pub index_call : Call
@@ -110,30 +110,5 @@ tableless_call = IndexCall [] [] (pos 1 ∷ pos 100000 ∷ []) index_sheet out
 abbrev pub index_calls : List Call
 index_calls = index_call ∷ tableless_call ∷ []
 
-abbrev pub first : Trace
-first = trace_of silent index_call
-
-abbrev pub second : Trace
-second = trace_of first.next tableless_call
-
-abbrev pub last : State
-last = state_after silent index_calls
-
-pub record IndexedDemand3 : Type 0 where
-  -- the state after the list
-  pub sharpening : (pos 0 ≤ℤ last.core.sharpening.0) × (last.core.sharpening.0 ≤ℤ pos 13017)
-  pub gain : (pos 0 ≤ℤ last.post.gain.previous_gain) × (last.post.gain.previous_gain ≤ℤ pos 32765)
-  -- the accepted call
-  pub first_accepted : accepted first ≡ true
-  pub tilts : (length first.tilts ≡ 4) × Every (λ (t : ℤ). (pos 0 ≤ℤ t) × (t ≤ℤ pos 26214)) first.tilts
-  pub divisors : Every (λ (q : Quotient). ¬ (q.divisor ≡ pos 0)) first.quotients
-  pub four : length first.subframes ≡ 4
-  pub places : first.places ≡ map (λ (u : SubframeResult). u.synthesis.place) first.subframes
-  pub rows : map (λ (u : SubframeResult). u.input.row) first.subframes ≡ first.rows.a ∷ first.rows.b ∷ first.rows.c ∷ first.rows.d ∷ []
-  pub history : first.next.core.history ≡ (after_call opened first).history
-  pub past : first.next.core.past ≡ (after_call opened first).past
-  -- the refused one
-  pub second_refused : accepted second ≡ false
-  pub none : second.subframes ≡ []
-  pub machine : after_call (after_call opened first) second ≡ after_call opened first
-  pub state : second.next ≡ first.next
+abbrev pub IndexedDemand3 : Type 0
+IndexedDemand3 = TwoCalls silent index_call tableless_call (state_after silent index_calls)

@@ -6,12 +6,13 @@ pub mod Refusals
 pub mod Gains
 pub mod Indexed
 pub mod Demand3
+pub mod Erased
 pub mod Divisions
 pub mod Calls
-pub mod Handover
 pub mod Synthesis
 pub mod Postfilter
 pub mod Capi
 pub mod Listing
+pub mod Handover
 pub mod Peaks
 pub mod Report

@@ -1,4 +1,5 @@
--- What a frame gives, of usable inputs and a state that the checks let pass: ranges, divisors, and a well-formed state that they let pass. Assumes nothing.
+-- What a frame gives, of what a usable sheet comes to and a state that the checks let pass: ranges, divisors, and a state that they let pass, well-formed but for
+-- its concealment. Assumes nothing.
 use lib.Dec.{lit≤}
 use lib.IntN.{ℤ, pos}
 use lib.Signed.{◌≤ℤ◌, le_z_yes}
@@ -14,15 +15,17 @@ use Rattle.basicop.proofs.Range.{sfits_range, sfits_from}
 use Rattle.basicop.proofs.Words.{words_map}
 use Rattle.spectral.specs.Lsp.{lsp_of, lsps_of}
 use Rattle.spectral.proofs.Lsp.{lsp_fits}
-use Rattle.decoder.specs.Inputs.{FrameInputs, Usable}
+use Rattle.decoder.specs.Inputs.{FrameInputs}
 use Rattle.decoder.specs.Core.{samples_of, quotients_of, core_result}
 use Rattle.decoder.proofs.Results.{Held, CoreFacts, core_facts}
 use Rattle.postfilter.specs.Tilted.{Framed}
 use Rattle.postfilter.proofs.Results.{processed_kept, framed_rows, rows_first}
 use Rattle.state.specs.declared.State.{State}
 use Rattle.outcome.specs.Outcome.{Outcome}
-use Rattle.state.specs.State.{WellFormed}
+use Rattle.state.specs.State.{SignalFormed}
 use Rattle.state.proofs.Checks.{InRange}
+use Rattle.mr74.specs.Prepass.{Prepared}
+use Rattle.mr74.proofs.Usable.{UsablePrepared}
 use Rattle.mr74.specs.Frame.{core_result_of, post_result_of, next_state_of, accepted_trace}
 
 in_16 : {z n : ℤ} → n ≤ℤ pos 32767 → pos 0 ≤ℤ z → z ≤ℤ n → SFits w16 z
@@ -30,25 +33,28 @@ in_16 {z} l f t = sfits_from w16 z (≤ℤ_trans (le_z_yes tt) f) (≤ℤ_trans 
 
 -- the state that a frame leaves; its smoothed gain is at most 32748, where demand 3 asks for 32765
 pub record NextFacts (s : State) : Type 0 where
-  pub well_formed : WellFormed s
+  pub formed : SignalFormed s
   pub passes : InRange s
   pub gain : s.post.gain.previous_gain ≤ℤ pos 32748
 
-pub record FrameFacts (inputs : FrameInputs) (s : State) : Type 0 where
-  pub core : CoreFacts (lsps_of inputs.lsfs) (core_result_of inputs s)
-  pub post : Framed 512 4 (post_result_of inputs s)
-  pub samples : Words 160 (post_result_of inputs s).output.samples
-  pub next : NextFacts (next_state_of inputs s)
+pub record FrameFacts (p : Prepared) (s : State) : Type 0 where
+  pub core : CoreFacts (lsps_of p.inputs.lsfs) (core_result_of p.inputs s)
+  pub post : Framed 512 4 (post_result_of p.inputs s)
+  pub samples : Words 160 (post_result_of p.inputs s).output.samples
+  pub next : NextFacts (next_state_of p s)
 
-module _ (inputs : FrameInputs) (s : State) (u : Usable inputs) (w : WellFormed s) (k : InRange s) where
+module _ (q : Prepared) (s : State) (u : UsablePrepared q) (w : SignalFormed s) (k : InRange s) where
+  abbrev inputs : FrameInputs
+  inputs = q.inputs
+
   pub held : Held s.core
   held = record { past = w.past; history = w.history }
 
-  pub frame_facts : FrameFacts inputs s
+  pub frame_facts : FrameFacts q s
   unfolding core_result
   frame_facts =
       let ys = samples_of (core_result_of inputs s).subframes in
-      let c = core_facts s.core inputs u held in
+      let c = core_facts s.core inputs u.inputs held in
       let p = processed_kept s.post (core_result_of inputs s).rows ys (record { inputs = w.input_history; outputs = w.synthesis_history; residual = w.previous_residual; gain = record { from = k.gain; to = (sfits_range w16 _ w.previous_gain).1 } }) c.samples in
       let m = p.memory in
       record {
@@ -56,8 +62,8 @@ module _ (inputs : FrameInputs) (s : State) (u : Usable inputs) (w : WellFormed 
         post = framed_rows s.post (core_result_of inputs s).rows ys (rows_first s.core.lsp (lsps_of inputs.lsfs));
         samples = p.samples;
         next = record {
-          well_formed = record {
-            lsp = rw c.next.lsp (words_map lsp_of lsp_fits inputs.lsfs u.ten);
+          formed = record {
+            lsp = rw c.next.lsp (words_map lsp_of lsp_fits inputs.lsfs u.inputs.ten);
             past = c.next.held.past;
             sharpening = in_16 (le_z_yes tt) c.next.sharpening.0 c.next.sharpening.1;
             history = c.next.held.history;
@@ -66,13 +72,13 @@ module _ (inputs : FrameInputs) (s : State) (u : Usable inputs) (w : WellFormed 
             previous_residual = m.residual;
             previous_gain = in_16 (le_z_yes tt) m.gain.from (p.gain (lit≤ tt));
           };
-          passes = record { from = c.next.sharpening.0; to = c.next.sharpening.1; gain = m.gain.from };
+          passes = record { from = c.next.sharpening.0; to = c.next.sharpening.1; gain = m.gain.from; concealment = u.concealment };
           gain = p.gain (lit≤ tt);
         };
       }
 
   -- every divisor of the frame: those of the core lie in 16384..=32767, those of the postfilter in 512..=32767
-  pub frame_divisors : (o : Outcome) → Every (Divides 512) (accepted_trace o inputs s).quotients
+  pub frame_divisors : (o : Outcome) → Every (Divides 512) (accepted_trace o q s).quotients
   frame_divisors o =
       every_append (Divides 512) (quotients_of (core_result_of inputs s).subframes) (post_result_of inputs s).quotients
       (every_map wider (quotients_of (core_result_of inputs s).subframes) frame_facts.core.divisors)

@@ -1,18 +1,26 @@
 -- The kinds of calls, and lists of them: document 01, "each call given the state that the last one gave back".
-use Rattle.std.specs.Prelude.{Bool, false, cond, ◌||◌, List, [], ◌∷◌, ℕ, ℤ, get_or}
+use Rattle.std.specs.Prelude.{◌≡◌, Ok, Bool, true, false, cond, ◌||◌, List, [], ◌∷◌, ℕ, ℤ, get_or}
+use Rattle.std.specs.Int.{w16}
+use Rattle.std.proofs.Common.{SFits}
+use Rattle.lists.specs.Lists.{at}
 use Rattle.state.specs.declared.State.{State}
+use Rattle.state.specs.State.{WellFormed, state_outcome}
 use Rattle.outcome.specs.Outcome.{is_accepted}
 use Rattle.mr74.specs.Frame.{Trace, frame_trace}
 use Rattle.mr74.specs.Indexed.{indexed_trace}
+use Rattle.mr74.specs.Erased.{erased_trace}
 
--- a call brings its own sheet and output; an index call (document 02, 5/13) brings its own tables and past energies too, of any length and content
+-- a call brings its own sheet and output; an index call (document 02, 5/13) brings its own tables and past energies too, and an erased call (7/13) its own past
+-- energies, of any length and content
 pub data Call : Type 0 where
   FrameCall : (sheet out : List ℤ) → Call
   IndexCall : (logs pows energies sheet out : List ℤ) → Call
+  ErasedCall : (energies sheet out : List ℤ) → Call
 
 abbrev pub trace_of : State → Call → Trace
 trace_of s (FrameCall sheet out) = frame_trace sheet s out
 trace_of s (IndexCall logs pows energies sheet out) = indexed_trace logs pows energies sheet s out
+trace_of s (ErasedCall energies sheet out) = erased_trace sheet s out
 
 abbrev pub next_state : State → Call → State
 next_state s c = (trace_of s c).next
@@ -38,3 +46,20 @@ any_accepted (t ∷ ts) = accepted t || any_accepted ts
 unfoldable pub latest_place : ℕ → List Trace → ℕ
 latest_place before [] = before
 latest_place before (t ∷ ts) = latest_place (cond (accepted t) (get_or t.places 3 40) before) ts
+
+-- ---- what a call leaves of a well-formed state. The theorems are `next_accepted` and `next_well_formed` in proofs/Calls.antt
+-- an accepted call of any kind leaves an accepted state,
+abbrev pub NextAccepted : Type 0
+NextAccepted = (s : State) (c : Call) → WellFormed s → accepted (trace_of s c) ≡ true → state_outcome (next_state s c) ≡ Ok tt
+
+-- and any call, whose sheet has numbers of 16 bits, a well-formed one
+abbrev pub sheet_of : Call → List ℤ
+sheet_of (FrameCall sheet out) = sheet
+sheet_of (IndexCall logs pows energies sheet out) = sheet
+sheet_of (ErasedCall energies sheet out) = sheet
+
+abbrev pub SheetFits : Call → Type 0
+SheetFits c = (k : ℕ) → SFits w16 (at (sheet_of c) k)
+
+abbrev pub NextWellFormed : Type 0
+NextWellFormed = (s : State) (c : Call) → WellFormed s → SheetFits c → WellFormed (next_state s c)

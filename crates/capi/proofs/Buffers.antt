@@ -18,12 +18,14 @@ use Rattle.outcome.specs.Outcome.{is_accepted}
 use Rattle.coding.specs.Bytes.{bytes_of, Bytes}
 use Rattle.mr74.specs.Frame.{CallResult, frame_call}
 use Rattle.mr74.specs.Indexed.{indexed_call}
+use Rattle.mr74.specs.Erased.{erased_call}
 use Rattle.mr74.proofs.Passed.{passed}
 use Rattle.mr74.proofs.IndexPassed.{index_passed}
-use Rattle.mr74.proofs.Places.{frame_places, indexed_places}
+use Rattle.mr74.proofs.ErasedPassed.{erased_passed}
+use Rattle.mr74.proofs.Places.{frame_places, indexed_places, erased_places}
 use Rattle.capi.specs.Capi.{sample_count, out_length, room_of, room_in, out_after}
-use Rattle.capi.specs.Indexed.{frame_result}
-use Rattle.capi.proofs.Codes.{frame_outcome_lem, indexed_outcome_lem}
+use Rattle.capi.specs.Energies.{frame_result}
+use Rattle.capi.proofs.Codes.{frame_outcome_lem, indexed_outcome_lem, erased_outcome_lem}
 
 -- ---- the places
 -- the places of an answer are bytes
@@ -52,6 +54,9 @@ frame_bytes_lem sheet s out h = places_bytes (frame_call sheet s out).answer.pla
 pub indexed_bytes_lem : (logs pows energies sheet : List ℤ) (s : State) (out : List ℤ) → Held s.core → Bytes (indexed_call logs pows energies sheet s out).answer.frame.places
 indexed_bytes_lem logs pows energies sheet s out h = places_bytes (indexed_call logs pows energies sheet s out).answer.frame.places (indexed_places logs pows energies sheet s out h)
 
+pub erased_bytes_lem : (energies sheet : List ℤ) (s : State) (out : List ℤ) → Held s.core → Bytes (erased_call energies sheet s out).answer.frame.places
+erased_bytes_lem energies sheet s out h = places_bytes (erased_call energies sheet s out).answer.frame.places (erased_places energies sheet s out h)
+
 -- ---- the output: an accepted call was lent all its bytes
 room_all : (bytes : ℕ) → ◌≡◌ {A = ℕ} (room_of bytes) sample_count → bytes ≡ out_length
 room_all bytes = go (eqb bytes out_length) refl
@@ -78,3 +83,9 @@ pub no_indexed_room : (logs pows energies sheet : List ℤ) (s : State) (out : L
 no_indexed_room logs pows energies sheet s out =
     no_room (frame_result (indexed_call logs pows energies sheet s (room_in out))) out
     (λ e. (index_passed logs pows sheet s (length (room_in out)) (rw (indexed_outcome_lem logs pows energies sheet s (room_in out)) at e)).lent)
+
+pub no_erased_room : (energies sheet : List ℤ) (s : State) (out : List ℕ) → (length out ≡ out_length → ⊥)
+    → out ≡ out_after (frame_result (erased_call energies sheet s (room_in out))) out
+no_erased_room energies sheet s out =
+    no_room (frame_result (erased_call energies sheet s (room_in out))) out
+    (λ e. (erased_passed sheet s (length (room_in out)) (rw (erased_outcome_lem energies sheet s (room_in out)) at e)).lent)

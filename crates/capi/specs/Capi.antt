@@ -1,5 +1,5 @@
--- The frame call, the reader and the writer over bytes; the calls that take indices of gains are in Indexed.antt. Numbers of 16 bits are two bytes, low
--- byte first. A state is the bytes of a record's body.
+-- The frame call, the reader and the writer over bytes; the calls that take past energies are in Energies.antt, Indexed.antt and Erased.antt. Numbers of 16
+-- bits are two bytes, low byte first. A state is the bytes of a record's body.
 use Rattle.std.specs.Prelude.{◌≡◌, Bool, cond, ◌&&◌, List, [], ◌∷◌, ℕ, ◌+◌, ◌*◌, eqb, ℤ, pos, length, replicate}
 use Rattle.lists.specs.Parts.{joined}
 use Rattle.lpc.specs.declared.Rows.{Rows}
@@ -19,7 +19,7 @@ sample_count = 160
 abbrev pub out_length : ℕ
 out_length = 2 * sample_count
 
--- 394
+-- 426
 abbrev pub state_length : ℕ
 state_length = body_length
 

@@ -1,19 +1,14 @@
 -- The calls that take indices of gains over bytes: the frame call of an index sheet, and the call of one index. Both are lent the tables of logarithm and
 -- power, and the four past energies, newest first.
 use Rattle.std.specs.Prelude.{◌≡◌, Bool, cond, ◌&&◌, List, [], ◌∷◌, ℕ, ◌*◌, eqb, ℤ, length}
-use Rattle.gain.specs.declared.GainDecoder.{GainDecoder}
 use Rattle.gain.specs.declared.Gains.{Gains}
 use Rattle.gain.specs.Call.{gain_call}
 use Rattle.coding.specs.Bytes.{words, bytes_of, Bytes}
-use Rattle.mr74.specs.Frame.{CallResult, call_result}
-use Rattle.mr74.specs.Indexed.{IndexedResult, indexed_call}
-use Rattle.capi.specs.Capi.{fits, unfit, code_of, lent_numbers, state_in, room_in, FrameReturn, frame_return, frame_after}
+use Rattle.mr74.specs.Indexed.{indexed_call}
+use Rattle.capi.specs.Capi.{unfit, code_of, lent_numbers, state_in, room_in}
+use Rattle.capi.specs.Energies.{energies_length, energy_bytes, EnergiesReturn, energies_bytes, LentUnchanged}
 
 -- ---- what is lent beside a frame's buffers
--- 8
-abbrev pub energies_length : ℕ
-energies_length = 2 * 4
-
 -- 80
 abbrev pub innovation_length : ℕ
 innovation_length = 2 * 40
@@ -28,38 +23,14 @@ index_sheet_in sheet = lent_numbers 178 sheet
 abbrev pub table_in : List ℕ → List ℤ
 table_in table = lent_numbers 33 table
 
-abbrev pub energy_bytes : GainDecoder → List ℕ
-energy_bytes decoder = bytes_of decoder.energies
-
 abbrev pub gain_pair_bytes : Gains → List ℕ
 gain_pair_bytes gains = bytes_of (gains.pitch.0 ∷ gains.code.0 ∷ [])
 
 -- ---- the frame call of an index sheet
--- what a frame call returns and leaves, and the lent energies
-pub record IndexedReturn : Type 0 where
-  pub frame : FrameReturn
-  pub energies : List ℕ
-
-abbrev pub indexed_return : FrameReturn → List ℕ → IndexedReturn
-indexed_return frame energies = record { frame = frame; energies = energies }
-
--- state, rows, places and energies have their lengths
-abbrev pub indexed_fits : ℕ → ℕ → ℕ → ℕ → Bool
-indexed_fits state rows places energies = fits state rows places && eqb energies energies_length
-
--- what a frame call gives of it
-abbrev pub frame_result : IndexedResult → CallResult
-frame_result c = call_result c.answer.frame c.lent
-
--- what a call leaves where they have their lengths
-abbrev pub indexed_after : IndexedResult → List ℕ → IndexedReturn
-indexed_after c out = indexed_return (frame_after (frame_result c) out) (energy_bytes c.answer.next)
-
-unfoldable pub indexed_bytes : List ℕ → List ℕ → List ℕ → List ℕ → List ℕ → List ℕ → List ℕ → List ℕ → IndexedReturn
+abbrev pub indexed_bytes : List ℕ → List ℕ → List ℕ → List ℕ → List ℕ → List ℕ → List ℕ → List ℕ → EnergiesReturn
 indexed_bytes sheet state out rows places logs pows energies =
-    cond (indexed_fits (length state) (length rows) (length places) (length energies))
-    (indexed_after (indexed_call (table_in logs) (table_in pows) (words energies) (index_sheet_in sheet) (state_in state) (room_in out)) out)
-    (indexed_return (frame_return unfit state out rows places) energies)
+    let c = indexed_call (table_in logs) (table_in pows) (words energies) (index_sheet_in sheet) (state_in state) (room_in out) in
+    energies_bytes c state out rows places energies
 
 -- ---- the call of one index
 -- the returned number, and the lent energies and gains
@@ -87,8 +58,7 @@ gain_bytes index innovation logs pows energies gains =
 abbrev pub IndexedUnchanged : Type 0
 IndexedUnchanged =
     (sheet state out rows places logs pows energies : List ℕ) → Bytes state → Bytes energies
-    → let left = indexed_bytes sheet state out rows places logs pows energies in
-    (left.frame.code ≡ 0 → ⊥) → (left.frame.state ≡ state) × (left.frame.out ≡ out) × (left.energies ≡ energies)
+    → LentUnchanged (indexed_bytes sheet state out rows places logs pows energies) state out energies
 
 -- and so a call of one index the lent energies
 abbrev pub GainUnchanged : Type 0

@@ -1,2 +1,4 @@
 pub mod Capi
+pub mod Energies
 pub mod Indexed
+pub mod Erased

@@ -1,14 +1,16 @@
 // The frame call of an index sheet over bytes: its sheet, its tables and its samples.
 ghost use Rattle.std.specs.Prelude.{◌≡◌};
-ghost use Rattle.mr74.specs.Indexed.{indexed_result, indexed_call};
+ghost use Rattle.mr74.specs.Frame.{energies_result};
+ghost use Rattle.mr74.specs.Indexed.{indexed_call};
 ghost use Rattle.capi.specs.Capi.{room_in, out_after, frame_return};
-ghost use Rattle.capi.specs.Indexed.{index_sheet_in, table_in, frame_result, indexed_return, indexed_bytes};
+ghost use Rattle.capi.specs.Energies.{frame_result, energies_return};
+ghost use Rattle.capi.specs.Indexed.{index_sheet_in, table_in, indexed_bytes};
 
 use super::frames::give;
 use super::lent::{energies_in, lent_numbers, write_energies};
 use super::{OUT_BYTES, TABLE, UNFIT};
 use gain::GainDecoder;
-use mr74::{INDEX_SHEET, IndexedAnswer, SAMPLES};
+use mr74::{EnergiesAnswer, INDEX_SHEET, SAMPLES};
 use state::State;
 
 // The call of the bytes of a sheet and of the tables.
@@ -19,8 +21,8 @@ fn indexed_in(
     pow_table: &[u8],
     energies: GainDecoder,
     samples: &mut [i16],
-) -> IndexedAnswer
-    ensures { indexed_result result samples.new ≡ indexed_call (table_in log_table.now) (table_in pow_table.now) energies.energies (index_sheet_in sheet.now) state samples.old }
+) -> EnergiesAnswer
+    ensures { energies_result result samples.new ≡ indexed_call (table_in log_table.now) (table_in pow_table.now) energies.energies (index_sheet_in sheet.now) state samples.old }
 {
     let numbers: Option<[i16; INDEX_SHEET]> = lent_numbers(sheet);
     let logs: Option<[i16; TABLE]> = lent_numbers(log_table);
@@ -44,7 +46,7 @@ fn indexed_out(
     pow_table: &[u8],
     energies: GainDecoder,
     out: &mut [u8],
-) -> IndexedAnswer
+) -> EnergiesAnswer
     ensures value { result ≡ (indexed_call (table_in log_table.now) (table_in pow_table.now) energies.energies (index_sheet_in sheet.now) state (room_in out.old)).answer }
     ensures out_after { out.new ≡ out_after (frame_result (indexed_call (table_in log_table.now) (table_in pow_table.now) energies.energies (index_sheet_in sheet.now) state (room_in out.old))) out.old }
 {
@@ -71,7 +73,7 @@ pub fn mr74_frame_indexed(
     pow_table: &[u8],
     energies: &mut [u8],
 ) -> u32
-    ensures { indexed_return (frame_return result state.new out.new rows.new places.new) energies.new ≡ indexed_bytes sheet.now state.old out.old rows.old places.old log_table.now pow_table.now energies.old }
+    ensures { energies_return (frame_return result state.new out.new rows.new places.new) energies.new ≡ indexed_bytes sheet.now state.old out.old rows.old places.old log_table.now pow_table.now energies.old }
 {
     let Some(state) = state.as_mut_array() else {
         return UNFIT;

@@ -2,7 +2,7 @@
 ghost use Rattle.std.specs.Prelude.{◌≡◌, MatchOption, []};
 ghost use Rattle.coding.specs.Bytes.{words};
 ghost use Rattle.capi.specs.Capi.{lent_numbers};
-ghost use Rattle.capi.specs.Indexed.{energy_bytes};
+ghost use Rattle.capi.specs.Energies.{energy_bytes};
 
 use super::ENERGIES_BYTES;
 use gain::GainDecoder;

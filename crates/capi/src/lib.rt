@@ -5,11 +5,13 @@ ghost use Rattle.std.specs.Prelude.{◌≡◌, ◌<◌};
 ghost use Rattle.outcome.specs.Outcome.{place_of};
 ghost use Rattle.capi.specs.Capi.{code_of, frame_return, frame_bytes, read_return, read_bytes, write_return, write_bytes};
 
+mod erased;
 mod frames;
 mod gains;
 mod indexed;
 mod lent;
 
+pub use erased::mr74_frame_erased;
 use frames::{frame_out, give};
 pub use gains::mr74_gain_decode;
 pub use indexed::mr74_frame_indexed;

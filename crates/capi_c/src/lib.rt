@@ -3,7 +3,9 @@
 
 ghost use Rattle.std.specs.Prelude.{◌≡◌};
 ghost use Rattle.capi.specs.Capi.{frame_return, frame_bytes, read_return, read_bytes, write_return, write_bytes};
-ghost use Rattle.capi.specs.Indexed.{indexed_return, indexed_bytes, gain_return, gain_bytes};
+ghost use Rattle.capi.specs.Energies.{energies_return};
+ghost use Rattle.capi.specs.Erased.{erased_bytes};
+ghost use Rattle.capi.specs.Indexed.{indexed_bytes, gain_return, gain_bytes};
 
 // The frame call. Accepted: the samples in `out`, the next state in `state`; refused: both stay. Rows and places are the answer's either way.
 // Returns number + 256 * place, or 255 where state, rows or places has another length, and nothing is changed.
@@ -33,11 +35,27 @@ pub extern "C" fn mr74_frame_indexed(
     pow_table: &[u8],
     energies: &mut [u8],
 ) -> u32
-    ensures { indexed_return (frame_return result state.new out.new rows.new places.new) energies.new ≡ indexed_bytes sheet.now state.old out.old rows.old places.old log_table.now pow_table.now energies.old }
+    ensures { energies_return (frame_return result state.new out.new rows.new places.new) energies.new ≡ indexed_bytes sheet.now state.old out.old rows.old places.old log_table.now pow_table.now energies.old }
 {
     capi::mr74_frame_indexed(
         sheet, state, out, rows, places, log_table, pow_table, energies,
     )
+}
+
+// The same of an erased sheet, with the past energies. Accepted: these are stepped once a subframe; refused: they stay. Returns 255 where `energies` has
+// another length, too.
+#[unsafe(no_mangle)]
+pub extern "C" fn mr74_frame_erased(
+    sheet: &[u8],
+    state: &mut [u8],
+    out: &mut [u8],
+    rows: &mut [u8],
+    places: &mut [u8],
+    energies: &mut [u8],
+) -> u32
+    ensures { energies_return (frame_return result state.new out.new rows.new places.new) energies.new ≡ erased_bytes sheet.now state.old out.old rows.old places.old energies.old }
+{
+    capi::mr74_frame_erased(sheet, state, out, rows, places, energies)
 }
 
 // The gains of one index. Accepted: pitch gain and code gain in `gains`, the energies after the subframe in `energies`; refused: 0 and 0, and the

@@ -1,5 +1,5 @@
 -- Numbers of 16 bits and their bytes: one number, loops over them, and both ways after one another. Assumes nothing.
-use mathlib.Core.Path.{◌≡◌, refl, ap, sym, ◌∙◌}
+use mathlib.Core.Path.{◌≡◌, refl, ap, ap₂, sym, ◌∙◌}
 use mathlib.Core.Bool.{Bool, true, false}
 use mathlib.Core.List.{List, [], ◌∷◌, append_assoc}
 use Prim.Native.Nat.{ℕ, zero, suc, ◌+◌, ◌-◌, ◌*◌, ◌/◌, ◌%◌, ◌^◌, ◌≤◌, ◌<◌}
@@ -52,6 +52,10 @@ put_done dst src i l h inv =
 -- a number that went through a local
 pub one_put : {y : List ℕ} (z : ℤ) → mag z < 2 ^ 15 → y ≡ bytes_of (to_z w16 (of_z w16 z) ∷ []) → y ≡ bytes_of (z ∷ [])
 one_put z h e = e ∙ ap (λ (x : ℤ). bytes_of (x ∷ [])) (back w16 h)
+
+-- two numbers so
+pub two_put : {b : List ℕ} (y z : ℤ) → mag y < 2 ^ 15 → mag z < 2 ^ 15 → b ≡ bytes_of (to_z w16 (of_z w16 y) ∷ to_z w16 (of_z w16 z) ∷ []) → b ≡ bytes_of (y ∷ z ∷ [])
+two_put y z h k e = e ∙ ap₂ (λ (a b : ℤ). bytes_of (a ∷ b ∷ [])) (back w16 h) (back w16 k)
 
 -- ---- there and back
 pub number_back : (x : ℤ) → mag x < 2 ^ 15 → signed16 (unsigned (bits16 x % 256) (bits16 x / 256)) ≡ x

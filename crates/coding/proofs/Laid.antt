@@ -19,10 +19,13 @@ unfolding bytes_of
 bytes_append [] ys = refl
 bytes_append (x ∷ xs) ys = rw (bytes_append xs ys)
 
--- the bytes of two parts, one after the other, are those of both, and of four so
-pub two_bytes : (a b : List ℤ) {p q : List ℕ} → p ≡ bytes_of a → q ≡ bytes_of b → p ++ q ≡ bytes_of (joined (a ∷ b ∷ []))
-two_bytes a b {p} {q} e f = ap₂ ◌++◌ e (f ∙ ap bytes_of (sym (append-nil b))) ∙ sym (bytes_append a (b ++ []))
+-- bytes are those of the parts, one after another
+pub record Laid (parts : List (List ℤ)) (b : List ℕ) : Type 0 where
+  pub same : b ≡ bytes_of (joined parts)
 
-pub four_bytes : (a b c d : List ℤ) {p q r s : List ℕ} → p ≡ bytes_of a → q ≡ bytes_of b → r ≡ bytes_of c → s ≡ bytes_of d → p ++ (q ++ (r ++ s)) ≡ bytes_of (joined (a ∷ b ∷ c ∷ d ∷ []))
-four_bytes a b c d e f g h =
-    ap₂ ◌++◌ e (ap₂ ◌++◌ f (two_bytes c d g h) ∙ sym (bytes_append b (joined (c ∷ d ∷ [])))) ∙ sym (bytes_append a (joined (b ∷ c ∷ d ∷ [])))
+-- the bytes of the first, and then those of the parts after it; and of the last
+pub next_bytes : {a : List ℤ} {p q : List ℕ} {parts : List (List ℤ)} → p ≡ bytes_of a → Laid parts q → Laid (a ∷ parts) (p ++ q)
+next_bytes {a} {parts = parts} e f = record { same = ap₂ ◌++◌ e f.same ∙ sym (bytes_append a (joined parts)) }
+
+pub last_bytes : {a : List ℤ} {p : List ℕ} → p ≡ bytes_of a → Laid (a ∷ []) p
+last_bytes {a} e = record { same = e ∙ ap bytes_of (sym (append-nil a)) }

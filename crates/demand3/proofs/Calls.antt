@@ -8,12 +8,13 @@ use Rattle.lists.proofs.Entries.{every_map}
 use Rattle.basicop.specs.Ops.{Quotient}
 use Rattle.basicop.specs.Divided.{Divides}
 use Rattle.basicop.proofs.Ints.{arith_ℤ}
-use Rattle.decoder.specs.Inputs.{FrameInputs, Usable}
 use Rattle.state.specs.declared.State.{State}
 use Rattle.outcome.specs.Outcome.{Outcome}
-use Rattle.state.specs.State.{WellFormed}
+use Rattle.state.specs.State.{SignalFormed}
 use Rattle.state.proofs.Checks.{InRange}
+use Rattle.mr74.specs.Prepass.{Prepared}
 use Rattle.mr74.specs.Frame.{Trace, accepted_trace}
+use Rattle.mr74.proofs.Usable.{UsablePrepared}
 use Rattle.calls.specs.Calls.{Call, trace_of, next_state, accepted}
 use Rattle.calls.proofs.Frames.{held, frame_facts, frame_divisors}
 use Rattle.calls.proofs.Calls.{decided, accepts, refuses}
@@ -24,29 +25,29 @@ use Rattle.demand3.proofs.Machine.{core_beside, core_machine}
 not_zero : (n : ℕ) → 1 ≤ n → (q : Quotient) → Divides n q → ¬ (q.divisor ≡ pos 0)
 not_zero n h q d e = omega (arith_ℤ, d.from, e)
 
--- the frame of usable inputs
-frame_in : (inputs : FrameInputs) (s : State) → Usable inputs → WellFormed s → InRange s → (o : Outcome) → AcceptedCall (accepted_trace o inputs s) (opening s)
-frame_in inputs s u w k o =
-    let r = frame_facts inputs s u w k in
-    let h = held inputs s u w k in
+-- the frame that a usable sheet comes to
+frame_in : (p : Prepared) (s : State) → UsablePrepared p → SignalFormed s → InRange s → (o : Outcome) → AcceptedCall (accepted_trace o p s) (opening s)
+frame_in p s u w k o =
+    let r = frame_facts p s u w k in
+    let h = held p s u w k in
     record {
       tilts = (r.post.tilts, r.post.range);
-      divisors = every_map (not_zero 512 (lit≤ tt)) (accepted_trace o inputs s).quotients (frame_divisors inputs s u w k o);
+      divisors = every_map (not_zero 512 (lit≤ tt)) (accepted_trace o p s).quotients (frame_divisors p s u w k o);
       four = r.core.four;
       places = refl;
       rows = r.core.rows;
-      subframes = core_beside s.core inputs u h;
-      next = sym (core_machine s.core inputs u h);
+      subframes = core_beside s.core p.inputs u.inputs h;
+      next = sym (core_machine s.core p.inputs u.inputs h);
     }
 
 pub call_refused : (s : State) (c : Call) (m : Machine) → accepted (trace_of s c) ≡ false → RefusedCall s (trace_of s c) m
 unfolding machine_after_subframes
 call_refused s c m e = subst (λ (t : Trace). RefusedCall s t m) (sym (refuses s c e).trace) (record { none = refl; no_tilt = refl; no_quotient = refl; machine = refl; state = refl })
 
-module _ (s : State) (c : Call) (w : WellFormed s) where
+module _ (s : State) (c : Call) (w : SignalFormed s) where
   -- an accepted call, as demand 3 has it
   pub call_in : accepted (trace_of s c) ≡ true → AcceptedCall (trace_of s c) (opening s)
-  call_in e = let a = accepts s c e in subst (λ (t : Trace). AcceptedCall t (opening s)) (sym a.trace) (frame_in a.inputs s a.usable w a.state a.outcome)
+  call_in e = let a = accepts s c e in subst (λ (t : Trace). AcceptedCall t (opening s)) (sym a.trace) (frame_in a.frame s a.usable w a.state a.outcome)
 
   -- the machine goes on with the history and the past of the state given back
   pub next_machine : machine_after_call (opening s) (trace_of s c) ≡ opening (next_state s c)

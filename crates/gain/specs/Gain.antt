@@ -1,8 +1,10 @@
--- gc_pred, Dec_gain and gc_pred_update of TS 26.073 at MR74 (TS 26.090, 6.1): the gains of a subframe, from their index, its sharpened innovation and the
--- energies of the four subframes before it. logs, pows: the tables of Log2 and Pow2.
-use Rattle.std.specs.Prelude.{List, [], ◌∷◌, ℕ, ℤ, pos, take}
+-- gc_pred, Dec_gain, gc_pred_update and gc_pred_average_limited of TS 26.073 at MR74 (TS 26.090, 6.1): the gains of a subframe, from their index, its
+-- sharpened innovation and the energies of the four subframes before it; and the energies after a subframe of an erased frame.
+-- logs, pows: the tables of Log2 and Pow2.
+use Rattle.std.specs.Prelude.{cond, List, [], ◌∷◌, ℕ, ℤ, pos, take}
+use Rattle.std.specs.Int.Signed.{lt_z}
 use Rattle.lists.specs.Lists.{minus, at, iter}
-use Rattle.basicop.specs.Ops.{sub, l_mult, l_mac, l_shl, l_shr, extract_h, extract_l, l_extract, mpy_32_16}
+use Rattle.basicop.specs.Ops.{add, sub, mult, l_mult, l_mac, l_shl, l_shr, extract_h, extract_l, l_extract, mpy_32_16}
 use Rattle.energy.specs.Energy.{squares}
 use Rattle.logarithm.specs.declared.Logarithm.{Logarithm}
 use Rattle.logarithm.specs.Log2.{log2}
@@ -50,3 +52,17 @@ decoded_gains logs pows index innovation energies =
       code = record { 0 = code_gain pows (at row 1) (predicted_gain logs innovation energies) };
       next = record { energies = entered (at row 2) energies };
     }
+
+-- ---- an erased frame
+-- gc_pred_average_limited: a quarter of the sum of the energies, newest first, at least MIN_ENERGY
+abbrev pub min_energy : ℤ
+min_energy = minus 14336
+
+unfoldable pub average_energy : List ℤ → ℤ
+average_energy energies =
+    let average = mult (iter (λ (i : ℕ) (a : ℤ). add a (at energies i)) 4 (pos 0)) (pos 8192) in
+    cond (lt_z average min_energy) min_energy average
+
+-- it enters as an energy does
+abbrev pub concealed_energies : List ℤ → List ℤ
+concealed_energies energies = entered (average_energy energies) energies

@@ -1,14 +1,14 @@
-// The gains of a subframe from their index: gc_pred, Dec_gain and gc_pred_update of TS 26.073.
+// The gains of a subframe from their index: gc_pred, Dec_gain, gc_pred_update and gc_pred_average_limited of TS 26.073.
 #![tactic(auto)]
 
 ghost use Rattle.std.specs.Prelude.{◌≡◌, ◌<◌, pos};
-ghost use Rattle.gain.specs.Gain.{entered, decoded_gains};
+ghost use Rattle.gain.specs.Gain.{entered, average_energy, concealed_energies, decoded_gains};
 ghost use Rattle.gain.specs.Call.{opening_energies, gain_call};
 
 mod checks;
 mod prediction;
 
-use basicop::{Q1, Q10, Q12, Q13, Q14};
+use basicop::{Q1, Q10, Q12, Q13, Q14, add, mult};
 use checks::check_decode;
 pub use checks::{Tables, check_indices, check_tables};
 use gain_table::gain_row;
@@ -56,6 +56,23 @@ impl GainDecoder {
         GainDecoder {
             energies: [energy.0, a, b, c],
         }
+    }
+
+    // gc_pred_average_limited: a quarter of the sum of the energies, at least -14336.
+    #[tactic(auto, using(basicop::proofs::Calls::read_back), unfolding(crate::specs::Gain::average_energy, lists::specs::Lists::iter))]
+    fn average(self) -> Q10
+        ensures { result.0 ≡ average_energy self.energies }
+    {
+        let [a, b, c, d] = self.energies;
+        let sum = add(add(add(add(0, a), b), c), d);
+        Q10(mult(sum, 8192).max(-14336))
+    }
+
+    // The energies after a subframe of an erased frame.
+    pub fn conceal_energy(self) -> Self
+        ensures { result.energies ≡ concealed_energies self.energies }
+    {
+        self.enter(self.average())
     }
 
     // Dec_gain, of an index and tables that their checks have accepted. The innovation is sharpened.

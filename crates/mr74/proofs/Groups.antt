@@ -8,10 +8,12 @@ use native.Mathlib.Omega.{arith}
 use lib.IntN.{ℤ, pos, ◌+ℤ◌}
 use lib.ListN.{length, take, drop}
 use lib.Seq.{get_or-take}
-use lib.Signed.{◌≤ℤ◌, le_z_yes}
+use lib.Signed.{◌≤ℤ◌, le_z_yes, lt_z}
 use borrow.Author.Tests.{eqb-true, ltb-false, not-false}
+use Rattle.std.proofs.lemmas.Bool.{or_parts}
 use Rattle.lists.specs.Lists.{at}
 use Rattle.lists.proofs.Entries.{stretch_at}
+use Rattle.basicop.proofs.Tests.{less_no}
 use Rattle.spectral.specs.Lsp.{Frequencies}
 use Rattle.outcome.specs.declared.Refusal.TheVariants.{Lsf, PitchIndex, Gain, LsfGap}
 use Rattle.outcome.specs.Outcome.{place_of, is_accepted}
@@ -21,11 +23,11 @@ use Rattle.outcome.proofs.Ranges.{in_ranges, in_range_all}
 use Rattle.outcome.proofs.Gaps.{in_gaps}
 use Rattle.state.specs.declared.State.{State}
 use Rattle.state.specs.State.{state_checks}
-use Rattle.state.proofs.Checks.{state_placed}
+use Rattle.state.proofs.Checks.{fields, state_placed}
 use Rattle.mr74.specs.Sheet.{lsfs_of, gains_of}
 use Rattle.gain.specs.Checks.{table_checks, index_checks}
 use Rattle.gain.proofs.Groups.{tables_placed, indices_placed}
-use Rattle.mr74.specs.Checks.{length_checks, lsf_checks, pitch_checks, gain_checks, sheet_checks, gain_indices_of, index_sheet_checks, call_checks, frame_outcome, indexed_outcome, GapsKept, call_outcome}
+use Rattle.mr74.specs.Checks.{length_checks, lsf_checks, pitch_checks, gain_checks, sheet_checks, gain_indices_of, index_sheet_checks, stage_of, stage_checks, erased_sheet_checks, call_checks, frame_outcome, indexed_outcome, erased_outcome, GapsKept, call_outcome}
 
 -- ---- what a group has shown
 pub lengths_accept : (count numbers room : ℕ) → is_accepted (first_met (length_checks count numbers room)) ≡ true → (numbers ≡ count) × (room ≡ 160)
@@ -72,6 +74,11 @@ module _ (sheet : List ℤ) where
   pub gains_accept : is_accepted (first_met (gain_checks sheet)) ≡ true → (k : ℕ) → k < 8 → pos 0 ≤ℤ at sheet (14 + k)
   gains_accept h k l = (ranges_at 14 8 (gains_of sheet) (ltb-false _ 8 (none_met (gain_checks sheet) h).0) k l).0
 
+  pub stage_accept : is_accepted (first_met (stage_checks sheet)) ≡ true → (pos 0 ≤ℤ stage_of sheet) × (stage_of sheet ≤ℤ pos 6)
+  stage_accept h =
+      let n = or_parts (lt_z (stage_of sheet) (pos 0)) (lt_z (pos 6) (stage_of sheet)) (none_met (stage_checks sheet) h).0 in
+      (less_no n.0, less_no n.1)
+
   -- ---- places
   lsfs_placed : Placed (lsf_checks sheet)
   lsfs_placed = (found_placed Lsf _ 10 (λ k h. omega arith), (found_placed LsfGap _ 10 (λ k h. omega arith), tt))
@@ -86,17 +93,25 @@ module _ (sheet : List ℤ) where
 placed_sheet : (sheet : List ℤ) (checks : List Check) → Placed checks → Placed (lsf_checks sheet ++ (pitch_checks sheet ++ checks))
 placed_sheet sheet checks p = placed_append (lsf_checks sheet) (pitch_checks sheet ++ checks) (lsfs_placed sheet) (placed_append (pitch_checks sheet) checks (pitch_placed sheet) p)
 
-call_place : (count : ℕ) (checks : List Check) (sheet : List ℤ) (s : State) (room : ℕ) → Placed checks → place_of (first_met (call_checks count checks sheet s room)) < 256
-call_place count checks sheet s room p =
-    place_low (call_checks count checks sheet s room)
-    (placed_append (length_checks count (length sheet) room) (checks ++ state_checks s) (none_placed (length_checks count (length sheet) room) tt) (placed_append checks (state_checks s) p (state_placed s)))
+-- of a state whose fives are no longer than fives
+module _ (s : State) (l : length (fields s.concealment) ≤ 15) where
+  call_place : (count : ℕ) (checks : List Check) (sheet : List ℤ) (room : ℕ) → Placed checks → place_of (first_met (call_checks count checks sheet s room)) < 256
+  call_place count checks sheet room p =
+      place_low (call_checks count checks sheet s room)
+      (placed_append (length_checks count (length sheet) room) (checks ++ state_checks s) (none_placed (length_checks count (length sheet) room) tt) (placed_append checks (state_checks s) p (state_placed s l)))
 
-pub outcome_place : (sheet : List ℤ) (s : State) (room : ℕ) → place_of (frame_outcome sheet s room) < 256
-unfolding call_outcome
-outcome_place sheet s room = call_place 182 (sheet_checks sheet) sheet s room (placed_sheet sheet (gain_checks sheet) (gains_placed sheet))
+  pub outcome_place : (sheet : List ℤ) (room : ℕ) → place_of (frame_outcome sheet s room) < 256
+  unfolding call_outcome
+  outcome_place sheet room = call_place 182 (sheet_checks sheet) sheet room (placed_sheet sheet (gain_checks sheet) (gains_placed sheet))
 
-pub indexed_place : (logs pows sheet : List ℤ) (s : State) (room : ℕ) → place_of (indexed_outcome logs pows sheet s room) < 256
-unfolding call_outcome
-indexed_place logs pows sheet s room =
-    call_place 178 (index_sheet_checks logs pows sheet) sheet s room
-    (placed_sheet sheet (table_checks logs pows ++ index_checks 4 (gain_indices_of sheet)) (placed_append (table_checks logs pows) (index_checks 4 (gain_indices_of sheet)) (tables_placed logs pows) (indices_placed 4 (gain_indices_of sheet) (omega arith))))
+  pub erased_place : (sheet : List ℤ) (room : ℕ) → place_of (erased_outcome sheet s room) < 256
+  unfolding call_outcome
+  erased_place sheet room =
+      call_place 171 (erased_sheet_checks sheet) sheet room
+      (placed_append (lsf_checks sheet) (stage_checks sheet) (lsfs_placed sheet) (none_placed (stage_checks sheet) tt))
+
+  pub indexed_place : (logs pows sheet : List ℤ) (room : ℕ) → place_of (indexed_outcome logs pows sheet s room) < 256
+  unfolding call_outcome
+  indexed_place logs pows sheet room =
+      call_place 178 (index_sheet_checks logs pows sheet) sheet room
+      (placed_sheet sheet (table_checks logs pows ++ index_checks 4 (gain_indices_of sheet)) (placed_append (table_checks logs pows) (index_checks 4 (gain_indices_of sheet)) (tables_placed logs pows) (indices_placed 4 (gain_indices_of sheet) (omega arith))))

@@ -14,7 +14,7 @@ use Rattle.outcome.specs.Checks.{Check, first_met}
 use Rattle.outcome.proofs.Checks.{both_accept}
 use Rattle.state.specs.declared.State.{State}
 use Rattle.state.proofs.Checks.{InRange, in_range}
-use Rattle.gain.specs.Checks.{table_checks, index_checks}
+use Rattle.gain.specs.Checks.{TableKept, table_checks, index_checks}
 use Rattle.gain.proofs.Kept.{accepted_tables}
 use Rattle.gain.proofs.Groups.{index_accept}
 use Rattle.mr74.specs.Checks.{gain_indices_of, index_sheet_checks, indexed_outcome, call_outcome}
@@ -32,6 +32,9 @@ module _ (logs pows sheet : List ℤ) (h : is_accepted (first_met (index_sheet_c
 
   pub gain_index : (k : ℕ) → k < 4 → (pos 0 ≤ℤ at sheet (14 + k)) × (at sheet (14 + k) ≤ℤ pos 127)
   gain_index k l = rw (stretch_at sheet 14 4 k l) (index_accept 4 (gain_indices_of sheet) both.1 k l)
+
+  pub index_tables : TableKept pows
+  index_tables = (accepted_tables logs pows both.0).1
 
   pub index_head : length (lsfs_of sheet) ≡ 10 → Head sheet
   index_head = head sheet (table_and_index_checks logs pows sheet) h

@@ -1,7 +1,7 @@
 -- An accepted index call is the frame call of the sheet with the gains so obtained, which is accepted: `IndexedIsFrame`. Assumes nothing.
 use Prim.Native.Nat.{ℕ, suc, ◌+◌, ◌*◌, ◌≤◌, ◌<◌}
 use mathlib.Core.Path.{◌≡◌, refl, sym, ap, ap₂, ◌∙◌}
-use mathlib.Core.Bool.{true}
+use mathlib.Core.Bool.{Bool, true}
 use mathlib.Core.List.{List, [], ◌∷◌, ◌++◌}
 use native.Mathlib.Omega.{arith}
 use lib.Dec.{lit≤}
@@ -12,62 +12,58 @@ use Rattle.std.specs.Prelude.{Ok}
 use Rattle.lists.specs.Lists.{at, Every}
 use Rattle.lists.proofs.Entries.{stretch_at}
 use Rattle.pitch.specs.Lag.{Lag}
-use Rattle.decoder.specs.Inputs.{SubframeInputs, FrameInputs}
 use Rattle.state.specs.declared.State.{State}
 use Rattle.outcome.specs.Outcome.{Outcome, is_accepted}
-use Rattle.outcome.specs.Checks.{Check, first_met, first_outside}
+use Rattle.outcome.specs.Checks.{Check, first_met}
 use Rattle.outcome.proofs.Checks.{accepted_here}
 use Rattle.outcome.proofs.Variants.{accepted_ok}
-use Rattle.basicop.proofs.Ints.{arith_ℤ}
-use Rattle.basicop.proofs.Tests.{no_less}
+use Rattle.outcome.proofs.Ranges.{never_outside}
 use Rattle.gain.specs.Checks.{TableKept}
 use Rattle.gain.proofs.Signs.{pitch_from, code_from}
 use Rattle.mr74.specs.declared.GainMemory.{GainMemory}
-use Rattle.mr74.specs.Sheet.{lags_of, innovation_of, subframes_from, sheet_inputs}
+use Rattle.mr74.specs.Prepass.{steps, after_erased, Prepared, prepared}
+use Rattle.mr74.specs.Sheet.{lags_of, innovation_of, frame_step, frame_prepared}
 use Rattle.mr74.specs.Checks.{length_checks, lsf_checks, pitch_checks, gain_checks, sheet_checks, index_sheet_checks, frame_outcome, indexed_outcome, call_outcome}
 use Rattle.mr74.specs.Frame.{Trace, trace_by, frame_trace, frame_call, result_of}
-use Rattle.mr74.specs.Indexed.{index_innovation_of, step_at, GainSteps, gain_steps, indexed_inputs, opened_memory, indexed_trace, indexed_call, gain_pairs, with_gains, IndexedIsFrame}
+use Rattle.mr74.specs.Indexed.{index_innovation_of, index_gains, index_step, indexed_prepared, opened_memory, indexed_trace, indexed_call, decoded_pairs, with_gains, IndexedIsFrame}
 use Rattle.mr74.proofs.Order.{state_decides}
 use Rattle.mr74.proofs.WithGains.{count_with, gains_with, lsfs_with, pitch_indices_with, innovation_with, lags_with}
 use Rattle.mr74.proofs.Passed.{CallPassed, call_passed, lsfs_pass, pitch_pass}
 use Rattle.mr74.proofs.IndexPassed.{IndexPassed, index_passed, table_and_index_checks}
 
 -- ---- its subframes, from those that the gains came with
-module _ (logs pows sheet frame_sheet : List ℤ) (innovation : (k : ℕ) → innovation_of frame_sheet k ≡ index_innovation_of sheet k) where
+module _ (logs pows sheet frame_sheet : List ℤ) (erased : Bool) (innovation : (k : ℕ) → innovation_of frame_sheet k ≡ index_innovation_of sheet k) where
   same_from : (k : ℕ) (ls : List Lag) (m : GainMemory)
-      → ((j : ℕ) → j < 2 * length ls → at frame_sheet (14 + 2 * k + j) ≡ at (gain_pairs (gain_steps logs pows sheet k ls m).subframes) j)
-      → subframes_from frame_sheet k ls ≡ (gain_steps logs pows sheet k ls m).subframes
+      → ((j : ℕ) → j < 2 * length ls → at frame_sheet (14 + 2 * k + j) ≡ at (decoded_pairs logs pows sheet erased k ls m) j)
+      → let all = steps (index_step logs pows sheet erased) k ls m in
+      steps (frame_step frame_sheet erased) k ls m.concealment ≡ record { subframes = all.subframes; memory = all.memory.concealment }
   same_from k [] m h = refl
   same_from k (l ∷ ls) m h =
-      let step = step_at logs pows sheet k l m in
-      let p : at frame_sheet (14 + 2 * k) ≡ step.inputs.pitch = ap (at frame_sheet) {x = 14 + 2 * k} {y = 14 + 2 * k + 0} (omega arith) ∙ h 0 (omega arith) in
-      let c : at frame_sheet (15 + 2 * k) ≡ step.inputs.code = ap (at frame_sheet) {x = 15 + 2 * k} {y = 14 + 2 * k + 1} (omega arith) ∙ h 1 (omega arith) in
-      let rest = same_from (suc k) ls step.memory (λ j b. ap (at frame_sheet) {x = 14 + 2 * suc k + j} {y = 14 + 2 * k + suc (suc j)} (omega arith) ∙ h (suc (suc j)) (omega (arith, b))) in
+      let decoded = index_gains logs pows sheet k l m in
+      let p : at frame_sheet (14 + 2 * k) ≡ decoded.pitch.0 = ap (at frame_sheet) {x = 14 + 2 * k} {y = 14 + 2 * k + 0} (omega arith) ∙ h 0 (omega arith) in
+      let c : at frame_sheet (15 + 2 * k) ≡ decoded.code.0 = ap (at frame_sheet) {x = 15 + 2 * k} {y = 14 + 2 * k + 1} (omega arith) ∙ h 1 (omega arith) in
+      let next = (index_step logs pows sheet erased k l m).memory in
+      let rest = same_from (suc k) ls next (λ j b. ap (at frame_sheet) {x = 14 + 2 * suc k + j} {y = 14 + 2 * k + suc (suc j)} (omega arith) ∙ h (suc (suc j)) (omega (arith, b))) in
       rw (p, c, innovation k, rest)
 
 -- ---- no gain is negative, so none is refused
-never_outside : (xs : List ℤ) → Every (λ (x : ℤ). pos 0 ≤ℤ x) xs → first_outside xs xs ≡ length xs
-unfolding first_outside
-never_outside [] h = refl
-never_outside (x ∷ xs) h = rw (no_less x (pos 0) h.0, no_less x x (omega arith_ℤ)) (ap suc (never_outside xs h.1))
-
-module _ (logs pows sheet : List ℤ) (kept : TableKept pows) (gain_indices : (k : ℕ) → k < 4 → (pos 0 ≤ℤ at sheet (14 + k)) × (at sheet (14 + k) ≤ℤ pos 127)) where
-  pairs_from : (k : ℕ) (ls : List Lag) (m : GainMemory) → k + length ls ≤ 4 → Every (λ (x : ℤ). pos 0 ≤ℤ x) (gain_pairs (gain_steps logs pows sheet k ls m).subframes)
+module _ (logs pows sheet : List ℤ) (erased : Bool) (kept : TableKept pows) (gain_indices : (k : ℕ) → k < 4 → (pos 0 ≤ℤ at sheet (14 + k)) × (at sheet (14 + k) ≤ℤ pos 127)) where
+  pairs_from : (k : ℕ) (ls : List Lag) (m : GainMemory) → k + length ls ≤ 4 → Every (λ (x : ℤ). pos 0 ≤ℤ x) (decoded_pairs logs pows sheet erased k ls m)
   pairs_from k [] m h = tt
   pairs_from k (l ∷ ls) m h =
       let i = gain_indices k (omega arith) in
-      (pitch_from logs pows (at sheet (14 + k)) _ _ i.0 i.1, (code_from logs pows (at sheet (14 + k)) _ _ kept i.0 i.1, pairs_from (suc k) ls (step_at logs pows sheet k l m).memory (omega arith)))
+      (pitch_from logs pows (at sheet (14 + k)) _ _ i.0 i.1, (code_from logs pows (at sheet (14 + k)) _ _ kept i.0 i.1, pairs_from (suc k) ls (index_step logs pows sheet erased k l m).memory (omega arith)))
 
 -- ---- the two calls
 module _ (logs pows energies sheet : List ℤ) (s : State) (out : List ℤ) (h : is_accepted (indexed_outcome logs pows sheet s (length out)) ≡ true) where
   p : IndexPassed logs pows sheet s (length out)
   p = index_passed logs pows sheet s (length out) h
 
-  abbrev steps : GainSteps
-  steps = gain_steps logs pows sheet 0 (lags_of sheet) (opened_memory energies s)
+  abbrev erased : Bool
+  erased = after_erased s.concealment
 
   abbrev gains : List ℤ
-  gains = gain_pairs steps.subframes
+  gains = decoded_pairs logs pows sheet erased 0 (lags_of sheet) (opened_memory energies s)
 
   abbrev frame_sheet : List ℤ
   frame_sheet = with_gains gains sheet
@@ -76,15 +72,14 @@ module _ (logs pows energies sheet : List ℤ) (s : State) (out : List ℤ) (h :
   gain_at : (j : ℕ) → j < 8 → at frame_sheet (14 + j) ≡ at gains j
   gain_at j l = stretch_at frame_sheet 14 8 j l ∙ ap (λ (xs : List ℤ). at xs j) (gains_with gains sheet p.count refl)
 
-  same_subframes : subframes_from frame_sheet 0 (lags_of frame_sheet) ≡ steps.subframes
-  same_subframes =
-      ap (subframes_from frame_sheet 0) (lags_with gains sheet p.count refl)
-      ∙ same_from logs pows sheet frame_sheet (innovation_with gains sheet p.count refl) 0 (lags_of sheet) (opened_memory energies s) gain_at
-
-  same_inputs : sheet_inputs frame_sheet ≡ (indexed_inputs logs pows sheet (opened_memory energies s)).inputs
-  unfolding indexed_inputs
-  same_inputs =
-      ap₂ (λ (lsfs : List ℤ) (subframes : List SubframeInputs). record { lsfs = lsfs; subframes = subframes }) (lsfs_with gains sheet p.count refl) same_subframes
+  same_prepared : frame_prepared frame_sheet s.concealment ≡ (indexed_prepared logs pows sheet s.concealment (opened_memory energies s)).frame
+  unfolding frame_prepared indexed_prepared
+  same_prepared =
+      let lsfs = lsfs_with gains sheet p.count refl in
+      let lags = lags_with gains sheet p.count refl in
+      let same = same_from logs pows sheet frame_sheet erased (innovation_with gains sheet p.count refl) 0 (lags_of sheet) (opened_memory energies s) gain_at in
+      let all = ap (λ (ls : List Lag). steps (frame_step frame_sheet erased) 0 ls s.concealment.gains) lags ∙ same in
+      λ i. prepared (pos 0) s.concealment (lsfs i) (lags i) (all i)
 
   -- each group of its checks accepts
   lengths_ok : Ok tt ≡ first_met (length_checks 182 (length frame_sheet) (length out))
@@ -107,7 +102,7 @@ module _ (logs pows energies sheet : List ℤ) (s : State) (out : List ℤ) (h :
   gains_ok : Ok tt ≡ first_met (gain_checks frame_sheet)
   unfolding first_met
   gains_ok =
-      rw (gains_with gains sheet p.count refl, never_outside gains (pairs_from logs pows sheet p.kept.pow_table p.kept.gain_indices 0 (lags_of sheet) (opened_memory energies s) (lit≤ tt))) refl
+      rw (gains_with gains sheet p.count refl, never_outside gains (pairs_from logs pows sheet erased p.kept.pow_table p.kept.gain_indices 0 (lags_of sheet) (opened_memory energies s) (lit≤ tt))) refl
 
   sheet_ok : Ok tt ≡ first_met (sheet_checks frame_sheet)
   sheet_ok =
@@ -120,10 +115,10 @@ module _ (logs pows energies sheet : List ℤ) (s : State) (out : List ℤ) (h :
 
   same_trace : indexed_trace logs pows energies sheet s out ≡ frame_trace frame_sheet s out
   unfolding indexed_trace frame_trace
-  same_trace = ap₂ (λ (o : Outcome) (inputs : FrameInputs). trace_by o inputs s out) (accepted_ok _ h ∙ sym frame_accepted) (sym same_inputs)
+  same_trace = ap₂ (λ (o : Outcome) (f : Prepared). trace_by o f s out) (accepted_ok _ h ∙ sym frame_accepted) (sym same_prepared)
 
 pub indexed_is_frame : IndexedIsFrame
-unfolding indexed_inputs indexed_call frame_call
+unfolding indexed_call frame_call indexed_trace
 indexed_is_frame logs pows energies sheet s out h =
     let same = same_trace logs pows energies sheet s out h in
     record {

@@ -1,11 +1,13 @@
--- A sheet's pitch indices, as the code has them. Assumes nothing.
+-- A sheet's pitch indices and a state's mark, as the code has them. Assumes nothing.
 use mathlib.Core.Path.{◌≡◌, refl}
 use native.Mathlib.Omega.{arith}
-use lib.Dec.{T, leb→le}
+use borrow.Author.Tests.{ne_eqb}
+use lib.Dec.{T, eqb, leb→le}
 use lib.IntN.{ℤ, pos, negsuc, nat_abs}
 use lib.Signed.{◌≤ℤ◌, non_neg, le_z_yes}
 use mir.Syntax.{w8, w16}
-use mir.Val.{Fits, to_z, of_z}
+use mir.Val.{Fits, SFits, to_z, of_z}
+use Rattle.lists.specs.Lists.{eq_z}
 use mir.Facts.{to_z-of_z}
 use Rattle.basicop.proofs.Ints.{≤ℤ_trans}
 use Rattle.basicop.proofs.Range.{sfits_from}
@@ -17,3 +19,8 @@ byte_fits z h k = rw (to_z-of_z (sfits_from w16 z (≤ℤ_trans (le_z_yes tt) h)
     go : (z : ℤ) → pos 0 ≤ℤ z → z ≤ℤ pos 255 → (T (non_neg z) × Fits w8 (nat_abs z)) × (pos (nat_abs z) ≡ z)
     go (pos n) h k = ((tt, record { fits = omega (arith, leb→le n 255 k.le) }), refl)
     go (negsuc n) h k = absurd h.le
+
+-- a mark that the code tests to be 1
+pub mark_is : (z : ℤ) → SFits w16 z → eqb (of_z w16 z) 1 ≡ eq_z z (pos 1)
+mark_is (pos n) f = refl
+mark_is (negsuc n) f = ne_eqb (of_z w16 (negsuc n)) 1 (λ e. omega (arith, f.sfits, e))

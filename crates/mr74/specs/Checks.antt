@@ -1,9 +1,10 @@
--- What turns a frame call back: document 01, "Turned back by the sheet", document 02, 3/13 and 5/13, and 16 and 17 of the state, in groups, in the order
--- 1, 5, 2, 6, 3, 4, 16, 17 of a frame sheet, and 1, 5, 2, 6, 3, 7, 8, 16, 17 of an index sheet.
+-- What turns a frame call back: document 01, "Turned back by the sheet", document 02, 3/13, 5/13 and 7/13, and 16 to 19 of the state, in groups, in the order
+-- 1, 5, 2, 6, 3, 4, 16 to 19 of a frame sheet, 1, 5, 2, 6, 3, 7, 8, 16 to 19 of an index sheet, and 1, 5, 2, 6, 9, 16 to 19 of an erased sheet.
 -- The theorem is `accepted_gaps` in proofs/Passed.antt.
-use Rattle.std.specs.Prelude.{◌≡◌, not, true, List, [], ◌∷◌, ◌++◌, ℕ, ◌+◌, ◌<◌, eqb, ℤ, pos, ◌+ℤ◌, length, take, drop, replicate, ◌≤ℤ◌}
+use Rattle.std.specs.Prelude.{◌≡◌, not, ◌||◌, true, List, [], ◌∷◌, ◌++◌, ℕ, ◌+◌, ◌<◌, eqb, ℤ, pos, ◌+ℤ◌, length, take, drop, replicate, ◌≤ℤ◌}
+use Rattle.std.specs.Int.Signed.{lt_z}
 use Rattle.lists.specs.Lists.{at}
-use Rattle.outcome.specs.declared.Refusal.TheVariants.{SheetLength, Lsf, PitchIndex, Gain, OutputLength, LsfGap}
+use Rattle.outcome.specs.declared.Refusal.TheVariants.{SheetLength, Lsf, PitchIndex, Gain, OutputLength, LsfGap, Stage}
 use Rattle.outcome.specs.Outcome.{Outcome, is_accepted}
 use Rattle.outcome.specs.Checks.{Check, check, place_check, first_met, first_outside, first_close}
 use Rattle.state.specs.declared.State.{State}
@@ -46,6 +47,18 @@ gain_indices_of sheet = take 4 (drop 14 sheet)
 abbrev pub index_sheet_checks : List ℤ → List ℤ → List ℤ → List Check
 index_sheet_checks logs pows sheet = lsf_checks sheet ++ (pitch_checks sheet ++ (table_checks logs pows ++ index_checks 4 (gain_indices_of sheet)))
 
+-- ---- an erased sheet
+abbrev pub stage_of : List ℤ → ℤ
+stage_of sheet = at sheet 10
+
+-- 9: an attenuation stage outside 0..=6
+abbrev pub stage_checks : List ℤ → List Check
+stage_checks sheet = check (lt_z (stage_of sheet) (pos 0) || lt_z (pos 6) (stage_of sheet)) Stage ∷ []
+
+-- its numbers
+abbrev pub erased_sheet_checks : List ℤ → List Check
+erased_sheet_checks sheet = lsf_checks sheet ++ stage_checks sheet
+
 -- ---- a call: of its sheet `count` numbers are wanted, and have checks of their own; the state, and the length of the lent output
 abbrev pub call_checks : ℕ → List Check → List ℤ → State → ℕ → List Check
 call_checks count checks sheet s room = length_checks count (length sheet) room ++ (checks ++ state_checks s)
@@ -58,6 +71,9 @@ frame_outcome sheet s room = call_outcome 182 sheet_checks sheet s room
 
 abbrev pub indexed_outcome : List ℤ → List ℤ → List ℤ → State → ℕ → Outcome
 indexed_outcome logs pows sheet s room = call_outcome 178 (index_sheet_checks logs pows) sheet s room
+
+abbrev pub erased_outcome : List ℤ → State → ℕ → Outcome
+erased_outcome sheet s room = call_outcome 171 erased_sheet_checks sheet s room
 
 -- ---- "A sheet that breaks the gap is no longer an accepted one"
 pub record GapsKept (sheet : List ℤ) : Type 0 where

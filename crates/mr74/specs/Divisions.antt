@@ -9,7 +9,8 @@ use Rattle.decoder.specs.Divisions.{enhancements_divide}
 use Rattle.postfilter.specs.Divisions.{tilts_divide, controls_divide}
 use Rattle.state.specs.declared.State.{State}
 use Rattle.outcome.specs.Outcome.{Outcome, is_accepted}
-use Rattle.mr74.specs.Sheet.{sheet_inputs}
+use Rattle.mr74.specs.Prepass.{Prepared}
+use Rattle.mr74.specs.Sheet.{frame_prepared}
 use Rattle.mr74.specs.Checks.{frame_outcome}
 use Rattle.mr74.specs.Frame.{core_result_of, accepted_trace, frame_trace}
 
@@ -26,12 +27,12 @@ control_divisions inputs s = count (controls_divide s.post (core_result_of input
 abbrev pub divisions_of : FrameInputs → State → ℕ
 divisions_of inputs s = enhancement_divisions inputs s + (tilt_divisions inputs s + control_divisions inputs s)
 
--- a trace tells each of them: of any inputs and state, and of an accepted sheet
+-- a trace tells each of them: of any frame and state, and of an accepted sheet
 abbrev pub EveryDivision : Type 0
-EveryDivision = (o : Outcome) (inputs : FrameInputs) (s : State) → length (accepted_trace o inputs s).quotients ≡ divisions_of inputs s
+EveryDivision = (o : Outcome) (p : Prepared) (s : State) → length (accepted_trace o p s).quotients ≡ divisions_of p.inputs s
 
 abbrev pub FrameDivisions : Type 0
 FrameDivisions =
     (sheet : List ℤ) (s : State) (out : List ℤ)
     → is_accepted (frame_outcome sheet s (length out)) ≡ true
-    → length (frame_trace sheet s out).quotients ≡ divisions_of (sheet_inputs sheet) s
+    → length (frame_trace sheet s out).quotients ≡ divisions_of (frame_prepared sheet s.concealment).inputs s

@@ -9,10 +9,12 @@ use Rattle.postfilter.specs.Postfilter.{PostfilterResult, postfilter_result}
 use Rattle.state.specs.declared.State.{State}
 use Rattle.outcome.specs.Outcome.{Outcome, is_accepted}
 use Rattle.mr74.specs.declared.FrameAnswer.{FrameAnswer}
-use Rattle.mr74.specs.Sheet.{sheet_inputs}
+use Rattle.mr74.specs.declared.EnergiesAnswer.{EnergiesAnswer}
+use Rattle.mr74.specs.Prepass.{Prepared, PreparedEnergies}
+use Rattle.mr74.specs.Sheet.{frame_prepared}
 use Rattle.mr74.specs.Checks.{frame_outcome}
 
--- ---- a frame, of its inputs and an accepted state
+-- ---- a frame, of what its sheet comes to and an accepted state
 -- the core takes and gives the core's part of the state alone
 abbrev pub core_result_of : FrameInputs → State → CoreResult
 core_result_of inputs s = core_result s.core inputs
@@ -21,8 +23,9 @@ core_result_of inputs s = core_result s.core inputs
 abbrev pub post_result_of : FrameInputs → State → PostfilterResult
 post_result_of inputs s = postfilter_result s.post (core_result_of inputs s).rows (samples_of (core_result_of inputs s).subframes)
 
-abbrev pub next_state_of : FrameInputs → State → State
-next_state_of inputs s = record { core = (core_result_of inputs s).next; post = (post_result_of inputs s).output.memory }
+abbrev pub next_state_of : Prepared → State → State
+next_state_of p s =
+    record { core = (core_result_of p.inputs s).next; post = (post_result_of p.inputs s).output.memory; concealment = p.concealment }
 
 -- ---- all that the papers speak of in a call
 pub record Trace : Type 0 where
@@ -44,20 +47,20 @@ pub record Trace : Type 0 where
   pub output : List ℤ
   pub next : State
 
-abbrev pub accepted_trace : Outcome → FrameInputs → State → Trace
-accepted_trace o inputs s =
-    let c = core_result_of inputs s in
-    let p = post_result_of inputs s in
+abbrev pub accepted_trace : Outcome → Prepared → State → Trace
+accepted_trace o p s =
+    let core = core_result_of p.inputs s in
+    let post = post_result_of p.inputs s in
     record {
       outcome = o;
-      rows = c.rows;
-      lags = map (λ (p : SubframeInputs). p.lag) inputs.subframes;
-      subframes = c.subframes;
-      places = places_of c.subframes;
-      tilts = p.tilts;
-      quotients = quotients_of c.subframes ++ p.quotients;
-      output = p.output.samples;
-      next = next_state_of inputs s;
+      rows = core.rows;
+      lags = map (λ (subframe : SubframeInputs). subframe.lag) p.inputs.subframes;
+      subframes = core.subframes;
+      places = places_of core.subframes;
+      tilts = post.tilts;
+      quotients = quotients_of core.subframes ++ post.quotients;
+      output = post.output.samples;
+      next = next_state_of p s;
     }
 
 -- rows all zero, places 40, no subframe, the output as it was, the state as it came
@@ -78,13 +81,13 @@ refused_trace o s out =
       next = s;
     }
 
--- of what a call comes to, its inputs, the state and the lent output
-abbrev pub trace_by : Outcome → FrameInputs → State → List ℤ → Trace
-trace_by o inputs s out = cond (is_accepted o) (accepted_trace o inputs s) (refused_trace o s out)
+-- of what a call's checks come to, what its sheet comes to, the state and the lent output
+abbrev pub trace_by : Outcome → Prepared → State → List ℤ → Trace
+trace_by o p s out = cond (is_accepted o) (accepted_trace o p s) (refused_trace o s out)
 
 -- of a sheet, a state and the lent output
 unfoldable pub frame_trace : List ℤ → State → List ℤ → Trace
-frame_trace sheet s out = trace_by (frame_outcome sheet s (length out)) (sheet_inputs sheet) s out
+frame_trace sheet s out = trace_by (frame_outcome sheet s (length out)) (frame_prepared sheet s.concealment) s out
 
 -- ---- what the call gives: its answer, and the lent output afterwards
 pub record CallResult : Type 0 where
@@ -99,3 +102,16 @@ result_of t = call_result (record { outcome = t.outcome; rows = t.rows; places =
 
 unfoldable pub frame_call : List ℤ → State → List ℤ → CallResult
 frame_call sheet s out = result_of (frame_trace sheet s out)
+
+-- ---- a call that takes the past energies: its answer, and the energies after it; as they came where it was refused
+pub record EnergiesResult : Type 0 where
+  pub answer : EnergiesAnswer
+  pub lent : List ℤ
+
+abbrev pub energies_result : EnergiesAnswer → List ℤ → EnergiesResult
+energies_result answer lent = record { answer = answer; lent = lent }
+
+abbrev pub energies_call : Outcome → PreparedEnergies → List ℤ → State → List ℤ → EnergiesResult
+energies_call o p energies s out =
+    let c = result_of (trace_by o p.frame s out) in
+    energies_result (record { frame = c.answer; next = record { energies = cond (is_accepted o) p.energies energies } }) c.lent

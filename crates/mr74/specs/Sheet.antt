@@ -1,9 +1,13 @@
 -- The frame sheet of document 01: 0..9 LSF; 10..13 pitch indices; 14..21 gains, pitch then code for each subframe; 22..181 innovation, forty for each subframe.
--- Numbers 0..13 are an index sheet's too.
-use Rattle.std.specs.Prelude.{List, [], ◌∷◌, ◌++◌, ℕ, suc, ◌+◌, ◌*◌, ℤ, take, drop}
+-- Numbers 0..13 are an index sheet's too, and 0..9 an erased sheet's.
+use Rattle.std.specs.Prelude.{Bool, List, [], ◌∷◌, ◌++◌, ℕ, ◌+◌, ◌*◌, ℤ, pos, take, drop}
 use Rattle.lists.specs.Lists.{at}
 use Rattle.pitch.specs.Lag.{Lag, absolute, relative}
-use Rattle.decoder.specs.Inputs.{SubframeInputs, FrameInputs}
+use Rattle.gain_concealment.specs.declared.GainPair.{GainPair}
+use Rattle.gain_concealment.specs.declared.GainConcealment.{GainConcealment}
+use Rattle.gain_concealment.specs.Concealment.{good_gains}
+use Rattle.state.specs.declared.Concealment.{Concealment}
+use Rattle.mr74.specs.Prepass.{Step, steps, subframe_inputs, after_erased, Prepared, prepared}
 
 abbrev pub lsfs_of : List ℤ → List ℤ
 lsfs_of sheet = take 10 sheet
@@ -25,18 +29,20 @@ lag_pair n m =
 abbrev pub lags_of : List ℤ → List Lag
 lags_of sheet = lag_pair (at sheet 10) (at sheet 11) ++ lag_pair (at sheet 12) (at sheet 13)
 
--- ---- the inputs of the frame
--- of subframe k, with its lag
+-- ---- the frame
+-- of subframe k
 abbrev pub innovation_of : List ℤ → ℕ → List ℤ
 innovation_of sheet k = take 40 (drop (22 + 40 * k) sheet)
 
-abbrev pub subframe_at : List ℤ → ℕ → Lag → SubframeInputs
-subframe_at sheet k lag = record { lag = lag; pitch = at sheet (14 + 2 * k); code = at sheet (15 + 2 * k); innovation = innovation_of sheet k }
+abbrev pub gains_at : List ℤ → ℕ → GainPair
+gains_at sheet k = record { pitch = record { 0 = at sheet (14 + 2 * k) }; code = record { 0 = at sheet (15 + 2 * k) } }
 
--- of the subframes from k on, with their lags
-abbrev pub subframes_from : List ℤ → ℕ → List Lag → List SubframeInputs
-subframes_from sheet k [] = []
-subframes_from sheet k (lag ∷ lags) = subframe_at sheet k lag ∷ subframes_from sheet (suc k) lags
+-- the gains of each are held, where the frame before was erased, and become the last good ones
+abbrev pub frame_step : List ℤ → Bool → ℕ → Lag → GainConcealment → Step GainConcealment
+frame_step sheet erased k lag c =
+    let used = good_gains erased (gains_at sheet k) c in
+    record { inputs = subframe_inputs lag used.gains (innovation_of sheet k); memory = used.next }
 
-abbrev pub sheet_inputs : List ℤ → FrameInputs
-sheet_inputs sheet = record { lsfs = lsfs_of sheet; subframes = subframes_from sheet 0 (lags_of sheet) }
+-- of a good frame
+unfoldable pub frame_prepared : List ℤ → Concealment → Prepared
+frame_prepared sheet c = prepared (pos 0) c (lsfs_of sheet) (lags_of sheet) (steps (frame_step sheet (after_erased c)) 0 (lags_of sheet) c.gains)

@@ -1,9 +1,11 @@
-// What turns a frame call back: groups of checks, in the order 1, 5, 2, 6, 3, 4, 16, 17 of a frame sheet and 1, 5, 2, 6, 3, 7, 8, 16, 17 of an index sheet.
+// What turns a frame call back: groups of checks, in the order 1, 5, 2, 6, 3, 4, 16 to 19 of a frame sheet, 1, 5, 2, 6, 3, 7, 8, 16 to 19 of an index sheet, and
+// 1, 5, 2, 6, 9, 16 to 19 of an erased sheet.
 ghost use Rattle.std.specs.Prelude.{◌≡◌, ◌≤◌, length};
 ghost use Rattle.outcome.specs.Checks.{first_met, Checked};
-ghost use Rattle.mr74.specs.Checks.{length_checks, lsf_checks, pitch_checks, gain_checks, sheet_checks, frame_outcome, index_sheet_checks, indexed_outcome};
+ghost use Rattle.mr74.specs.Checks.{length_checks, lsf_checks, pitch_checks, gain_checks, sheet_checks, frame_outcome, index_sheet_checks, indexed_outcome, stage_checks, erased_sheet_checks, erased_outcome};
 
-use super::{INDEX_SHEET, SAMPLES, SHEET};
+use super::{ERASED_SHEET, INDEX_SHEET, SAMPLES, SHEET};
+use crate::erased_sheet::CheckedErasedSheet;
 use crate::index_sheet::CheckedIndexSheet;
 use crate::sheet::CheckedSheet;
 use gain::Tables;
@@ -76,7 +78,7 @@ fn check_sheet(sheet: &[i16; SHEET]) -> Outcome
     check_gains(sheet)
 }
 
-// In the order 1, 5, 2, 6, 3, 4, 16, 17.
+// In the order 1, 5, 2, 6, 3, 4, 16 to 19.
 #[tactic(auto, using(crate::proofs::Order::lengths_refuse, crate::proofs::Order::state_decides))]
 pub fn check_frame(sheet: &[i16], state: State, room: usize) -> Result<CheckedSheet<'_>, Refusal>
     ensures { Checked result (frame_outcome sheet.now state room) (λ checked. checked.numbers.now ≡ sheet.now) }
@@ -102,7 +104,7 @@ fn check_index_sheet<'a>(
     Ok(tables)
 }
 
-// In the order 1, 5, 2, 6, 3, 7, 8, 16, 17.
+// In the order 1, 5, 2, 6, 3, 7, 8, 16 to 19.
 #[tactic(auto, using(crate::proofs::Order::lengths_refuse, crate::proofs::Order::state_decides))]
 pub fn check_indexed<'a>(
     sheet: &'a [i16],
@@ -117,4 +119,39 @@ pub fn check_indexed<'a>(
     let tables = check_index_sheet(numbers, logs, pows)?;
     state::check_state(state)?;
     Ok(CheckedIndexSheet { numbers, tables })
+}
+
+// 9: an attenuation stage outside 0..=6.
+#[tactic(auto, unfolding(outcome::specs::Checks::first_met))]
+fn check_stage(sheet: &[i16; ERASED_SHEET]) -> Outcome
+    ensures { result ≡ first_met (stage_checks sheet.now) }
+{
+    let outside = !(0..=6).contains(&sheet[10]);
+    if outside {
+        return Err(Refusal::Stage);
+    }
+    Ok(())
+}
+
+// The numbers of an erased sheet.
+fn check_erased_sheet(sheet: &[i16; ERASED_SHEET]) -> Outcome
+    ensures { result ≡ first_met (erased_sheet_checks sheet.now) }
+{
+    check_lsfs(sheet)?;
+    check_stage(sheet)
+}
+
+// In the order 1, 5, 2, 6, 9, 16 to 19.
+#[tactic(auto, using(crate::proofs::Order::lengths_refuse, crate::proofs::Order::state_decides))]
+pub fn check_erased(
+    sheet: &[i16],
+    state: State,
+    room: usize,
+) -> Result<CheckedErasedSheet<'_>, Refusal>
+    ensures { Checked result (erased_outcome sheet.now state room) (λ checked. checked.numbers.now ≡ sheet.now) }
+{
+    let numbers = check_lengths(sheet, room)?;
+    check_erased_sheet(numbers)?;
+    state::check_state(state)?;
+    Ok(CheckedErasedSheet { numbers })
 }

@@ -1,12 +1,13 @@
-// The lags of a sheet, by its four pitch indices: numbers 10..13 of a frame sheet and of an index sheet.
-ghost use Rattle.std.specs.Prelude.{◌≡◌, Ok, ◌+◌, ◌<◌, ◌≤◌, pos, length, List, [], ◌∷◌};
+// The lags of a sheet, by its four pitch indices, numbers 10..13 of a frame sheet and of an index sheet; and those of an erased frame.
+ghost use Rattle.std.specs.Prelude.{◌≡◌, Ok, ◌+◌, ◌<◌, ◌≤◌, pos, ◌≤ℤ◌, length, List, [], ◌∷◌};
 ghost use Rattle.lists.specs.Lists.{at};
 ghost use Rattle.outcome.specs.Checks.{first_met};
 ghost use Rattle.pitch.specs.Lag.{lag_of};
 ghost use Rattle.mr74.specs.Checks.{pitch_checks};
 ghost use Rattle.mr74.specs.Sheet.{lags_of};
+ghost use Rattle.mr74.specs.Erased.{concealed_lags};
 
-use pitch::PitchLag;
+use pitch::{Fraction, PitchDecoder, PitchLag};
 
 // Of the four subframes, each in 19..=144.
 #[derive(Clone, Copy)]
@@ -28,6 +29,22 @@ fn pitch_index(sheet: &[i16], subframe: usize) -> u8
     ensures { pos result ≡ at sheet.now (10 + subframe) }
 {
     sheet[10 + subframe] as u8
+}
+
+// The lags of an erased frame after the last lag, each by the one before.
+pub fn conceal_lags(last_lag: i16) -> Lags
+    requires { (pos 19 ≤ℤ last_lag) × (last_lag ≤ℤ pos 144) }
+    ensures { lag_of result.a ∷ lag_of result.b ∷ lag_of result.c ∷ lag_of result.d ∷ [] ≡ concealed_lags 4 last_lag }
+{
+    let last = PitchLag {
+        samples: last_lag as u16,
+        fraction: Fraction::Zero,
+    };
+    let a = PitchDecoder { previous: last }.conceal();
+    let b = PitchDecoder { previous: a }.conceal();
+    let c = PitchDecoder { previous: b }.conceal();
+    let d = PitchDecoder { previous: c }.conceal();
+    Lags { a, b, c, d }
 }
 
 // The lags of subframes 1 and 3 go by the one before.

@@ -1,31 +1,37 @@
-// The frame calls of MR74: of a sheet with gains, and of one with their indices.
+// The frame calls of MR74: of a sheet with gains, of one with their indices, and of an erased frame.
 #![tactic(auto)]
 
 ghost use Rattle.std.specs.Prelude.{◌≡◌, Ok, Err, map};
-ghost use Rattle.decoder.specs.Inputs.{inputs_of};
 ghost use Rattle.decoder.specs.Subframe.{flag_of};
 ghost use Rattle.mr74.specs.Frame.{accepted_trace, call_result, result_of, frame_call};
-ghost use Rattle.mr74.specs.Indexed.{indexed_result, indexed_call};
-ghost use Rattle.mr74.specs.Inner.{refused_answer};
+ghost use Rattle.mr74.specs.Inner.{prepared_of, refused_answer};
 
 mod checks;
+mod erased_call;
+mod erased_sheet;
+mod index_call;
 mod index_sheet;
 mod lags;
 mod sheet;
 
 use basicop::Q14;
-use checks::{check_frame, check_indexed};
+use checks::check_frame;
 use decoder::{CoreOutput, Inputs};
+pub use erased_call::frame_erased;
 use gain::GainDecoder;
+use gain_concealment::GainConcealment;
+pub use index_call::frame_indexed;
 use lpc::Rows;
 use outcome::{Outcome, Refusal};
 use postfilter::Postfiltered;
-use state::State;
+use state::{Concealment, State};
 
-// The numbers of a frame sheet, of an index sheet, and of the lent output.
+// The numbers of a frame sheet, of an index sheet, of an erased sheet, and of the lent output.
 pub const SHEET: usize = 182;
 
 pub const INDEX_SHEET: usize = 178;
+
+pub const ERASED_SHEET: usize = 171;
 
 pub const SAMPLES: usize = 160;
 
@@ -42,16 +48,17 @@ pub struct FrameAnswer {
     pub next: State,
 }
 
-// What goes from subframe to subframe before the core: the sharpening that the gains leave, and the past energies.
+// What goes from subframe to subframe of an index sheet before the core: the sharpening that the gains leave, the past energies, and the gains' concealment.
 #[derive(Clone, Copy)]
 pub struct GainMemory {
     pub sharpening: Q14,
     pub gain_decoder: GainDecoder,
+    pub concealment: GainConcealment,
 }
 
-// What the frame call of an index sheet gives beside the lent samples: the frame's answer, and the past energies after it.
+// What a frame call that takes past energies gives beside the lent samples: the frame's answer, and the energies after it.
 #[derive(Drop)]
-pub struct IndexedAnswer {
+pub struct EnergiesAnswer {
     pub frame: FrameAnswer,
     pub next: GainDecoder,
 }
@@ -65,8 +72,8 @@ pub fn flags(places: [usize; 4]) -> [bool; 4]
 
 // ---- the calls
 // The core of the frame, then the postfilter: the answer, and the samples.
-fn decode(state: State, inputs: Inputs) -> (FrameAnswer, [i16; SAMPLES])
-    ensures { call_result result.0 result.1 ≡ result_of (accepted_trace (Ok tt) (inputs_of inputs) state) }
+fn decode(state: State, inputs: Inputs, concealment: Concealment) -> (FrameAnswer, [i16; SAMPLES])
+    ensures { call_result result.0 result.1 ≡ result_of (accepted_trace (Ok tt) (prepared_of inputs concealment) state) }
 {
     let CoreOutput {
         rows,
@@ -82,7 +89,11 @@ fn decode(state: State, inputs: Inputs) -> (FrameAnswer, [i16; SAMPLES])
         outcome: Ok(()),
         rows,
         places,
-        next: State { core, post },
+        next: State {
+            core,
+            post,
+            concealment,
+        },
     };
     (answer, samples)
 }
@@ -107,43 +118,11 @@ pub fn frame(sheet: &[i16], state: State, out: &mut [i16]) -> FrameAnswer
 {
     match check_frame(sheet, state, out.len()) {
         Ok(checked) => {
-            let (answer, samples) = decode(state, checked.inputs());
+            let (inputs, concealment) = checked.inputs(state.concealment);
+            let (answer, samples) = decode(state, inputs, concealment);
             out.copy_from_slice(&samples);
             answer
         }
         Err(refusal) => refused(refusal, state),
-    }
-}
-
-// Decodes a frame of an index sheet: its gains come from their indices, by the lent tables of logarithm and power and by the past energies. Accepted: as
-// `frame`, and the energies come back with those of its subframes. Refused: as `frame`, and the energies as they came.
-pub fn frame_indexed(
-    sheet: &[i16],
-    state: State,
-    log_table: &[i16],
-    pow_table: &[i16],
-    gain_decoder: GainDecoder,
-    out: &mut [i16],
-) -> IndexedAnswer
-    ensures { indexed_result result out.new ≡ indexed_call log_table.now pow_table.now gain_decoder.energies sheet.now state out.old }
-{
-    match check_indexed(sheet, state, log_table, pow_table, out.len()) {
-        Ok(checked) => {
-            let opened = GainMemory {
-                sharpening: state.core.sharpening,
-                gain_decoder,
-            };
-            let (inputs, memory) = checked.inputs(opened);
-            let (frame, samples) = decode(state, inputs);
-            out.copy_from_slice(&samples);
-            IndexedAnswer {
-                frame,
-                next: memory.gain_decoder,
-            }
-        }
-        Err(refusal) => IndexedAnswer {
-            frame: refused(refusal, state),
-            next: gain_decoder,
-        },
     }
 }

@@ -2,7 +2,7 @@
 use Prim.Native.Nat.{ℕ, zero, suc, ◌+◌, ◌≤◌, ◌<◌, min}
 use mathlib.Core.Path.{◌≡◌, refl, subst}
 use mathlib.Core.Bool.{Bool, true, false, cond, not, ◌||◌}
-use mathlib.Core.List.{List, [], ◌∷◌}
+use mathlib.Core.List.{List, [], ◌∷◌, ◌++◌, append-nil}
 use native.Mathlib.Omega.{arith}
 use lib.IntN.{ℤ, pos}
 use lib.ListN.{length, replicate}
@@ -14,7 +14,8 @@ use Rattle.std.specs.List.{zip, position_or_len}
 use Rattle.std.proofs.lemmas.Slice.Zip.{length-zip}
 use Rattle.lists.specs.Lists.{at, Every}
 use Rattle.std.proofs.lemmas.Bool.{or_parts}
-use Rattle.basicop.proofs.Tests.{less_no}
+use Rattle.basicop.proofs.Ints.{arith_ℤ}
+use Rattle.basicop.proofs.Tests.{less_no, no_less}
 use Rattle.outcome.specs.Checks.{within, found, first_outside}
 
 -- ---- a number against its limit
@@ -49,7 +50,7 @@ none_found {o} place count e h = ltb-false place count (go (ltb place count) (rw
     go true k = absurd (subst T k tt)
     go false k = refl
 
--- ---- where none is found, every number lies in its range
+-- ---- where none is found, every number lies in its range, and where every number does, none is found
 pub one_more : (b : Bool) (n k : ℕ) → suc k ≤ cond b (suc n) 0 → (b ≡ true) × (k ≤ n)
 one_more true n k h = (refl, omega arith)
 one_more false n k h = absurd (omega arith)
@@ -60,6 +61,24 @@ in_ranges [] limits k h = absurd (omega arith)
 in_ranges (x ∷ xs) [] k h = absurd (omega arith)
 in_ranges (x ∷ xs) (l ∷ ls) zero h = in_range l x (one_more (within l x) (first_outside xs ls) 0 h).0
 in_ranges (x ∷ xs) (l ∷ ls) (suc k) h = in_ranges xs ls k (one_more (within l x) (first_outside xs ls) (suc k) h).1
+
+pub from_zero : (xs limits : List ℤ) → length xs ≤ first_outside xs limits → Every (λ (x : ℤ). pos 0 ≤ℤ x) xs
+unfolding first_outside
+from_zero [] limits h = tt
+from_zero (x ∷ xs) [] h = absurd (omega arith)
+from_zero (x ∷ xs) (l ∷ ls) h =
+    let r = one_more (within l x) (first_outside xs ls) (length xs) h in
+    ((in_range l x r.0).0, from_zero xs ls r.1)
+
+-- numbers from 0 on that are their own limits, and others after them
+pub own_limits : (xs ys limits : List ℤ) → Every (λ (x : ℤ). pos 0 ≤ℤ x) xs → first_outside (xs ++ ys) (xs ++ limits) ≡ length xs + first_outside ys limits
+unfolding first_outside
+own_limits [] ys limits h = omega arith
+own_limits (x ∷ xs) ys limits h = rw (no_less x (pos 0) h.0, no_less x x (omega arith_ℤ)) (let e = own_limits xs ys limits h.1 in omega (arith, e))
+
+pub never_outside : (xs : List ℤ) → Every (λ (x : ℤ). pos 0 ≤ℤ x) xs → first_outside xs xs ≡ length xs
+unfolding first_outside
+never_outside xs h = let e = rw (append-nil xs) at (own_limits xs [] [] h) in omega (arith, e)
 
 -- the same where all have one limit
 pub in_range_all : (n : ℕ) (limit : ℤ) (xs : List ℤ) → length xs ≡ n → n ≤ first_outside xs (replicate n limit) → Every (λ (x : ℤ). (pos 0 ≤ℤ x) × (x ≤ℤ limit)) xs

@@ -6,7 +6,7 @@ use native.Mathlib.Omega.{arith}
 use lib.Dec.{T}
 use Rattle.std.specs.Prelude.{Ok, Err, is_ok}
 use Rattle.outcome.specs.declared.Refusal.{Refusal}
-use Rattle.outcome.specs.declared.Refusal.TheVariants.{SheetLength, Lsf, PitchIndex, Gain, OutputLength, LsfGap, Table, GainIndex, RecordShort, Tag, Version, Layout, BodyShort, Sharpening, SmoothedGain}
+use Rattle.outcome.specs.declared.Refusal.TheVariants.{SheetLength, Lsf, PitchIndex, Gain, OutputLength, LsfGap, Table, GainIndex, Stage, RecordShort, Tag, Version, Layout, BodyShort, Sharpening, SmoothedGain, GainField, LastLag}
 use Rattle.outcome.specs.Outcome.{Outcome, refusal_number, number_of, place_of, is_accepted}
 
 record Fact (r : Refusal) : Type 0 where
@@ -24,6 +24,7 @@ fact OutputLength = record { number = omega arith; refuses = refl }
 fact (LsfGap place) = record { number = omega arith; refuses = refl }
 fact (Table place) = record { number = omega arith; refuses = refl }
 fact (GainIndex place) = record { number = omega arith; refuses = refl }
+fact Stage = record { number = omega arith; refuses = refl }
 fact RecordShort = record { number = omega arith; refuses = refl }
 fact Tag = record { number = omega arith; refuses = refl }
 fact Version = record { number = omega arith; refuses = refl }
@@ -31,6 +32,8 @@ fact Layout = record { number = omega arith; refuses = refl }
 fact BodyShort = record { number = omega arith; refuses = refl }
 fact Sharpening = record { number = omega arith; refuses = refl }
 fact SmoothedGain = record { number = omega arith; refuses = refl }
+fact (GainField place) = record { number = omega arith; refuses = refl }
+fact LastLag = record { number = omega arith; refuses = refl }
 
 pub never_accepted : (r : Refusal) → is_accepted (Err r) ≡ false
 never_accepted r = (fact r).refuses

@@ -1,8 +1,8 @@
--- Refusals: document 01, "Turned back by the sheet" and "Turned back by the state", and document 02, 3/13 (number 6) and 5/13 (7 and 8).
+-- Refusals: document 01, "Turned back by the sheet" and "Turned back by the state", and document 02, 3/13 (number 6), 5/13 (7 and 8) and 7/13 (9, 18, 19).
 use Rattle.std.specs.Prelude.{Bool, ℕ, eqb, Result, Ok, Err}
 use Rattle.outcome.specs.declared.Refusal.{Refusal}
-use Rattle.outcome.specs.declared.Refusal.TheVariants.{SheetLength, Lsf, PitchIndex, Gain, OutputLength, LsfGap, Table, GainIndex}
-use Rattle.outcome.specs.declared.Refusal.TheVariants.{RecordShort, Tag, Version, Layout, BodyShort, Sharpening, SmoothedGain}
+use Rattle.outcome.specs.declared.Refusal.TheVariants.{SheetLength, Lsf, PitchIndex, Gain, OutputLength, LsfGap, Table, GainIndex, Stage}
+use Rattle.outcome.specs.declared.Refusal.TheVariants.{RecordShort, Tag, Version, Layout, BodyShort, Sharpening, SmoothedGain, GainField, LastLag}
 
 -- what a call comes to: it is accepted, or a check turns it back
 abbrev pub Outcome : Type 0
@@ -18,6 +18,7 @@ refusal_number OutputLength = 5
 refusal_number (LsfGap place) = 6
 refusal_number (Table place) = 7
 refusal_number (GainIndex place) = 8
+refusal_number Stage = 9
 refusal_number RecordShort = 11
 refusal_number Tag = 12
 refusal_number Version = 13
@@ -25,6 +26,8 @@ refusal_number Layout = 14
 refusal_number BodyShort = 15
 refusal_number Sharpening = 16
 refusal_number SmoothedGain = 17
+refusal_number (GainField place) = 18
+refusal_number LastLag = 19
 
 -- the papers' place
 abbrev pub refusal_place : Refusal → ℕ
@@ -36,6 +39,7 @@ refusal_place OutputLength = 0
 refusal_place (LsfGap place) = place
 refusal_place (Table place) = place
 refusal_place (GainIndex place) = place
+refusal_place Stage = 0
 refusal_place RecordShort = 0
 refusal_place Tag = 0
 refusal_place Version = 0
@@ -43,6 +47,8 @@ refusal_place Layout = 0
 refusal_place BodyShort = 0
 refusal_place Sharpening = 0
 refusal_place SmoothedGain = 0
+refusal_place (GainField place) = place
+refusal_place LastLag = 197
 
 -- both are 0 for what is accepted
 abbrev pub number_of : Outcome → ℕ

@@ -7,7 +7,7 @@ ghost use Rattle.outcome.specs.Checks.{within, apart, found, first_outside, firs
 
 use std::iter::once;
 
-// Document 01's refusals and document 02's, by their numbers. A place goes with 2, 3, 4, 6, 7 and 8.
+// Document 01's refusals and document 02's, by their numbers. A place goes with 2, 3, 4, 6, 7, 8, 18 and 19.
 #[derive(Clone, Copy, Debug, PartialEq, Eq)]
 pub enum Refusal {
     // 1
@@ -26,6 +26,8 @@ pub enum Refusal {
     Table(usize),
     // 8
     GainIndex(usize),
+    // 9
+    Stage,
     // 11
     RecordShort,
     // 12
@@ -40,6 +42,10 @@ pub enum Refusal {
     Sharpening,
     // 17
     SmoothedGain,
+    // 18: the place is a field of the state
+    GainField(usize),
+    // 19: always field 197
+    LastLag,
 }
 
 // What a call comes to: it is accepted, or a check turns it back.
@@ -58,6 +64,7 @@ impl Refusal {
             Refusal::LsfGap(_) => 6,
             Refusal::Table(_) => 7,
             Refusal::GainIndex(_) => 8,
+            Refusal::Stage => 9,
             Refusal::RecordShort => 11,
             Refusal::Tag => 12,
             Refusal::Version => 13,
@@ -65,6 +72,8 @@ impl Refusal {
             Refusal::BodyShort => 15,
             Refusal::Sharpening => 16,
             Refusal::SmoothedGain => 17,
+            Refusal::GainField(_) => 18,
+            Refusal::LastLag => 19,
         }
     }
 
@@ -78,7 +87,9 @@ impl Refusal {
             | Refusal::Gain(place)
             | Refusal::LsfGap(place)
             | Refusal::Table(place)
-            | Refusal::GainIndex(place) => place,
+            | Refusal::GainIndex(place)
+            | Refusal::GainField(place) => place,
+            Refusal::LastLag => 197,
             _ => 0,
         }
     }

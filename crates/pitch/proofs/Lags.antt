@@ -6,6 +6,7 @@ use native.Mathlib.Omega.{arith}
 use borrow.Author.Tests.{lt-ltb, le-ltb, ltb-true, ltb-false}
 use lib.Dec.{T, ltb, eqb, lit<, lit≤}
 use lib.IntN.{ℤ, pos, negsuc, ◌+ℤ◌, ◌-ℤ◌}
+use lib.Signed.{◌≤ℤ◌}
 use mir.Syntax.{w16}
 use Rattle.lists.specs.Lists.{eq_z}
 use Rattle.lists.proofs.Table.{both_pass, below_each, eq_z→eq}
@@ -14,7 +15,7 @@ use borrow.Author.Differences.{sum_is_lem}
 use Rattle.basicop.proofs.Ints.{arith_ℤ, sfits_by, sub_ℤ_is}
 use Rattle.basicop.proofs.Clamp.{clamp_id}
 use Rattle.basicop.proofs.Naturals.{add_pos, sub_pos}
-use Rattle.pitch.specs.Lag.{Lag, absolute, relative, raised_20, lowered_134, lag_min}
+use Rattle.pitch.specs.Lag.{Lag, absolute, relative, raised_20, lowered_134, lag_min, concealed_lag}
 
 pub lag_eq : {l m : Lag} → l.samples ≡ m.samples → l.thirds ≡ m.thirds → l ≡ m
 lag_eq p q = ap₂ (λ (s t : ℤ). record { samples = s; thirds = t }) p q
@@ -119,7 +120,22 @@ pub relative_is : (n t m : ℕ) → n < 256 → lag_min (pos t) ≡ pos m → 20
 unfolding relative
 relative_is n t m h e l u = lag_eq (rw (quotient_is n h, e) (moved ((n + 2) / 3) m (omega arith) l u)) refl
 
--- ---- every lag that a frame has lies in 19..=144, and 144 occurs only with -1/3
+-- ---- a subframe of an erased frame
+one_more : ℕ → Lag
+one_more t = record { samples = pos (t + 1); thirds = pos 0 }
+
+below_143 : ℕ → Bool
+below_143 t = same (concealed_lag (pos t)) (one_more t)
+
+pub concealed_below : (t : ℕ) → t < 143 → concealed_lag (pos t) ≡ record { samples = pos (t + 1); thirds = pos 0 }
+unfolding below_143 one_more same concealed_lag sub add clamp
+concealed_below t h = same→eq (concealed_lag (pos t)) (one_more t) (below_each below_143 143 tt t h)
+
+pub concealed_from : (t : ℕ) → 143 ≤ t → concealed_lag (pos t) ≡ record { samples = pos t; thirds = pos 0 }
+unfolding concealed_lag
+concealed_from t h = rw (sub_pos t 143 h, le-ltb (min (t - 143) 32767) 0 (omega arith))
+
+-- ---- every lag that a sheet's indices give lies in 19..=144, and 144 occurs only with -1/3
 pub record Lawful (l : Lag) : Type 0 where
   pub samples : ℕ
   pub is : l.samples ≡ pos samples
@@ -151,3 +167,19 @@ relative_lawful n t h =
       to = omega arith;
       last = λ e. let k : n ≡ 31 = omega arith in rw k (thirds_is 31 (lit< tt));
     })
+
+-- ---- every lag that a frame has, good or erased, lies in 19..=144
+pub record Span (l : Lag) : Type 0 where
+  pub from : pos 19 ≤ℤ l.samples
+  pub to : l.samples ≤ℤ pos 144
+
+pub lawful_span : {l : Lag} → Lawful l → Span l
+lawful_span w = record { from = rw w.is (omega (arith_ℤ, w.from)); to = rw w.is (omega (arith_ℤ, w.to)) }
+
+pub concealed_span : (t : ℤ) → pos 19 ≤ℤ t → t ≤ℤ pos 144 → Span (concealed_lag t)
+concealed_span (pos n) h l = go (ltb n 143) refl
+  where
+    go : (b : Bool) → ltb n 143 ≡ b → Span (concealed_lag (pos n))
+    go true e = let k = ltb-true n 143 e in rw (concealed_below n k) (record { from = omega (arith_ℤ, h, k); to = omega (arith_ℤ, k) })
+    go false e = rw (concealed_from n (ltb-false n 143 e)) (record { from = h; to = l })
+concealed_span (negsuc n) h l = absurd h.le

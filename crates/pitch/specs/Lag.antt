@@ -1,4 +1,4 @@
--- Lags: Dec_lag3 of TS 26.073, and the range that its caller Decoder_amr hands it, for MR74 (TS 26.090, 6.1).
+-- Lags: Dec_lag3 of TS 26.073, and the range that its caller Decoder_amr hands it, for MR74 (TS 26.090, 6.1); and Decoder_amr's own of an erased frame.
 use Rattle.std.specs.Prelude.{cond, ℤ, pos, negsuc}
 use Rattle.std.specs.Int.Signed.{lt_z}
 use Rattle.basicop.specs.Ops.{add, sub, mult}
@@ -37,6 +37,10 @@ unfoldable pub relative : ℤ → ℤ → Lag
 relative n t =
     let i = sub (mult (add n (pos 2)) (pos 10923)) (pos 1) in
     record { samples = add i (lag_min t); thirds = sub (sub n (pos 2)) (triple i) }
+
+-- ---- a subframe of an erased frame, after the lag t: old_T0 grows by one while it is below PIT_MAX, and T0_frac is 0 (Decoder_amr, bfi)
+unfoldable pub concealed_lag : ℤ → Lag
+concealed_lag t = record { samples = cond (lt_z (sub t (pos 143)) (pos 0)) (add t (pos 1)) t; thirds = pos 0 }
 
 -- ---- the code's lag: document 01's thirds of each fraction
 abbrev pub thirds_of : Fraction → ℤ

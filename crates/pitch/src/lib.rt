@@ -1,8 +1,8 @@
-// Lags from pitch indices: Dec_lag3 of TS 26.073.
+// Lags: from pitch indices, Dec_lag3 of TS 26.073, and of an erased frame.
 #![tactic(auto)]
 
 ghost use Rattle.std.specs.Prelude.{◌≡◌, ◌≤◌, pos};
-ghost use Rattle.pitch.specs.Lag.{absolute, relative, lag_min, thirds_of, lag_of};
+ghost use Rattle.pitch.specs.Lag.{absolute, relative, concealed_lag, lag_min, thirds_of, lag_of};
 
 // A part of a sample, in thirds.
 #[derive(Clone, Copy, PartialEq, Eq, Debug)]
@@ -17,6 +17,12 @@ pub enum Fraction {
 pub struct PitchLag {
     pub samples: u16,
     pub fraction: Fraction,
+}
+
+// What an erased frame's lags go by: the lag of the subframe before.
+#[derive(Clone, Copy)]
+pub struct PitchDecoder {
+    pub previous: PitchLag,
 }
 
 impl Fraction {
@@ -79,6 +85,25 @@ impl PitchLag {
         PitchLag {
             samples: least(previous.samples) + (index as u16 + 2) / 3 - 1,
             fraction: fraction_of(index),
+        }
+    }
+}
+
+impl PitchDecoder {
+    // A subframe of an erased frame: a sample more than the lag before, not raised from 143 on; fraction 0.
+    #[tactic(auto, using(crate::proofs::Lags::concealed_below, crate::proofs::Lags::concealed_from))]
+    pub fn conceal(self) -> PitchLag
+        ensures { lag_of result ≡ concealed_lag (lag_of self.previous).samples }
+    {
+        let PitchDecoder { previous } = self;
+        let short = previous.samples < 143;
+        PitchLag {
+            samples: if short {
+                previous.samples + 1
+            } else {
+                previous.samples
+            },
+            fraction: Fraction::Zero,
         }
     }
 }

@@ -4,37 +4,34 @@ use mathlib.Core.Bool.{Bool, true, false, cond}
 use mathlib.Core.List.{List, [], ◌++◌}
 use Prim.Native.Nat.{ℕ, ◌+◌, ◌-◌, ◌≤◌, ◌<◌}
 use native.Mathlib.Omega.{arith}
-use lib.ListN.{length, take, drop, length-drop, length-take}
+use lib.ListN.{length, take, drop}
 use lib.Dec.{ltb}
 use lib.Seq.{length-take-le}
 use borrow.Author.Tests.{ltb-false, lt-ltb, le-ltb}
-use Rattle.std.specs.Prelude.{Option, None, Some, Ok, Err, MatchOption, MatchResult}
-use Rattle.std.specs.Option.{ok_or}
-use Rattle.std.specs.Array.{IsWholeChunk}
+use Rattle.std.specs.Prelude.{Ok, Err}
 use Rattle.std.proofs.lemmas.List.{drop-take}
 use Rattle.outcome.specs.declared.Refusal.{Refusal}
 use Rattle.outcome.specs.declared.Refusal.TheVariants.{RecordShort, BodyShort}
 use Rattle.outcome.specs.Outcome.{Outcome, is_accepted}
 use Rattle.outcome.specs.Checks.{Check, first_met}
 use Rattle.outcome.proofs.Variants.{never_accepted}
-use Rattle.outcome.proofs.Checks.{met, unmet, none_left, accepts_here, accepted_here, refused_first, both_accept, none_met}
+use Rattle.outcome.proofs.Checks.{met, unmet, none_left, accepted_here, refused_first, both_accept, none_met}
 use Rattle.state.specs.declared.State.{State}
 use Rattle.state.specs.State.{state_checks}
 use Rattle.state.specs.Layout.{state_of}
 use Rattle.coding.specs.Bytes.{words}
 use Rattle.record.specs.declared.Answer.{Answer}
-use Rattle.record.specs.Record.{end_of, distance_of, note_length, note_of, numbers_in, size_checks, trailer_checks, body_checks, byte_checks, record_outcome, zero_state, refused_answer, read_result, read_call}
-use Rattle.record.proofs.Trailers.{distance_is}
+use Rattle.record.specs.Record.{Trailer, versions, trailer_of, field_at, end_of, trailer_in, distance_of, note_length, note_of, numbers_in, size_checks, trailer_checks, body_checks, byte_checks, record_outcome, zero_state, refused_answer, read_result, read_call}
 
--- the body, as the code lends it
-abbrev pub lent_body : List ℕ → List ℕ
-lent_body b = take 394 (drop (length b - 402) b)
+-- ---- the body, of a version
+pub body_there : (before distance : ℕ) → is_accepted (first_met (body_checks before distance)) ≡ true → distance ≤ before
+body_there before distance h = ltb-false before distance (none_met (body_checks before distance) h).0
 
-body_numbers : (b : List ℕ) → 402 ≤ length b → distance_of b ≡ 394 → words (lent_body b) ≡ numbers_in b
-body_numbers b h e =
-    let k : 394 ≡ distance_of b = omega (arith, e) in
-    let m : length b - 402 ≡ note_length b = omega (arith, e) in
-    ap₂ (λ (i j : ℕ). words (take i (drop j b))) k m
+pub body_short : (before distance : ℕ) → before < distance → first_met (body_checks before distance) ≡ Err BodyShort
+body_short before distance h = sym (met (ltb before distance) BodyShort [] (lt-ltb before distance h))
+
+pub body_found : (before distance : ℕ) → distance ≤ before → first_met (body_checks before distance) ≡ Ok tt
+body_found before distance h = sym (none_left ∙ unmet (ltb before distance) BodyShort [] (le-ltb before distance h))
 
 -- ---- what the checks of the bytes come to
 module _ (b : List ℕ) where
@@ -48,32 +45,35 @@ module _ (b : List ℕ) where
     after_size : first_met (trailer_checks (end_of b) ++ last) ≡ first_met (byte_checks b)
     after_size = unmet (ltb (length b) 8) RecordShort (trailer_checks (end_of b) ++ last) (le-ltb (length b) 8 h)
 
-    pub trailer_refused : {r : Refusal} → Err r ≡ first_met (trailer_checks (end_of b)) → first_met (byte_checks b) ≡ Err r
-    trailer_refused a = sym (refused_first (trailer_checks (end_of b)) last a ∙ after_size)
+    pub trailer_refused : {r : Refusal} → first_met (trailer_checks (end_of b)) ≡ Err r → first_met (byte_checks b) ≡ Err r
+    trailer_refused a = sym (refused_first (trailer_checks (end_of b)) last (sym a) ∙ after_size)
 
-    -- the trailer is right, and `body` is what was looked for before it
-    module _ (a : Ok tt ≡ first_met (trailer_checks (end_of b))) where
-      distance_here : distance_of b ≡ 394
-      distance_here = distance_is (end_of b) (accepts_here (trailer_checks (end_of b)) a)
+    -- the last 8 bytes are a right trailer, t is its version's, and `before` is what stands before it
+    module _ (end : List ℕ) (o : end ≡ end_of b) (a : first_met (trailer_checks end) ≡ Ok tt) (t : Trailer) (u : trailer_of (field_at end 2) versions ≡ t) (before : List ℕ) (f : before ≡ take (length b - 8) b) where
+      right : Ok tt ≡ first_met (trailer_checks (end_of b))
+      right = sym a ∙ ap (λ (l : List ℕ). first_met (trailer_checks l)) o
 
-      after_trailer : first_met last ≡ first_met (byte_checks b)
-      after_trailer = accepted_here (trailer_checks (end_of b)) last a ∙ after_size
+      e : trailer_in b ≡ t
+      e = ap (λ (l : List ℕ). trailer_of (field_at l 2) versions) (sym o) ∙ u
 
-      body_at : 402 ≤ length b → {before : List ℕ} → before ≡ take (length b - 8) b → drop (length before - 394) before ≡ lent_body b
-      body_at l {before} e =
-          let k : length before - 394 ≡ length b - 402 = omega (arith, ap length e, length-take-le (length b - 8) b) in
-          let m : length b - 8 ≡ length b - 402 + 394 = omega arith in
-          ap₂ drop k (e ∙ ap (λ (n : ℕ). take n b) m) ∙ drop-take (length b - 402) 394 b
+      before_length : length before ≡ length b - 8
+      before_length = ap length f ∙ length-take-le (length b - 8) b (omega arith)
 
-      pub body_found : {X : Type 0} (now : X → List ℕ) (o : Option X) {before : List ℕ} → before ≡ take (length b - 8) b → length before + 8 ≡ length b
-          → MatchOption o (length before < 394) (λ x. (394 ≤ length before) × IsWholeChunk (drop (length before - 394) before) (now x) 394)
-          → MatchResult (ok_or o BodyShort) (λ x. (first_met (byte_checks b) ≡ Ok tt) × (words (now x) ≡ numbers_in b)) (λ r. first_met (byte_checks b) ≡ Err r)
-      body_found now None e l m =
-          sym (met (ltb (length b - 8) (distance_of b)) BodyShort [] (lt-ltb (length b - 8) (distance_of b) (omega (arith, m, l, distance_here))) ∙ after_trailer)
-      body_found now (Some x) e l m =
-          let w : 402 ≤ length b = omega (arith, m.0, l) in
-          let f = none_left ∙ unmet (ltb (length b - 8) (distance_of b)) BodyShort [] (le-ltb (length b - 8) (distance_of b) (omega (arith, m.0, l, distance_here))) ∙ after_trailer in
-          (sym f, ap words (m.1.same ∙ body_at w e) ∙ body_numbers b w distance_here)
+      pub body_decides : first_met (body_checks (length before) t.distance) ≡ first_met (byte_checks b)
+      body_decides =
+          ap₂ (λ (n : ℕ) (v : Trailer). first_met (body_checks n v.distance)) before_length (sym e)
+          ∙ accepted_here (trailer_checks (end_of b)) last right ∙ after_size
+
+      pub note_before : length before - t.distance ≡ note_length b
+      note_before = ap₂ (λ (n : ℕ) (v : Trailer). n - v.distance) before_length (sym e)
+
+      pub numbers_before : first_met (body_checks (length before) t.distance) ≡ Ok tt → words (drop (length before - t.distance) before) ++ t.missing ≡ numbers_in b
+      numbers_before y =
+          let d : t.distance ≤ length b - 8 = rw before_length at (body_there (length before) t.distance (ap is_accepted y)) in
+          let m : length b - 8 ≡ length b - 8 - t.distance + t.distance = omega arith in
+          ap₂ (λ (n : ℕ) (l : List ℕ). words (drop (n - t.distance) l) ++ t.missing) before_length (f ∙ ap (λ (n : ℕ). take n b) m)
+          ∙ ap (λ (l : List ℕ). words l ++ t.missing) (drop-take (length b - 8 - t.distance) t.distance b)
+          ∙ ap (λ (v : Trailer). words (take v.distance (drop (length b - 8 - v.distance) b)) ++ v.missing) (sym e)
 
 -- ---- what their acceptance says
 module _ (b : List ℕ) where
@@ -82,22 +82,14 @@ module _ (b : List ℕ) where
     groups =
         let a = both_accept (size_checks (length b)) (trailer_checks (end_of b) ++ body_checks (length b - 8) (distance_of b)) y in
         let c = both_accept (trailer_checks (end_of b)) (body_checks (length b - 8) (distance_of b)) a.1 in
-        (ltb-false (length b) 8 (none_met (size_checks (length b)) a.0).0, (c.0, ltb-false (length b - 8) (distance_of b) (none_met (body_checks (length b - 8) (distance_of b)) c.1).0))
+        (ltb-false (length b) 8 (none_met (size_checks (length b)) a.0).0, (c.0, body_there (length b - 8) (distance_of b) c.1))
 
     pub trailer_accepted : is_accepted (first_met (trailer_checks (end_of b))) ≡ true
     trailer_accepted = groups.1.0
 
-    pub distance_accepted : distance_of b ≡ 394
-    distance_accepted = distance_is (end_of b) trailer_accepted
-
-    pub whole : 402 ≤ length b
-    whole = omega (arith, groups.0, groups.1.1, distance_accepted)
-
-    pub body_length_lem : length (lent_body b) ≡ 394
-    body_length_lem = let h = whole in simp (length-take, length-drop) (omega arith)
-
-    pub lent_numbers : words (lent_body b) ≡ numbers_in b
-    lent_numbers = body_numbers b whole distance_accepted
+    -- note, body and trailer are the record
+    pub whole : length b ≡ note_length b + (distance_of b + 8)
+    whole = omega (arith, groups.0, groups.1.1)
 
   -- then the state decides
   pub state_decides : first_met (byte_checks b) ≡ Ok tt → {s : State} → s ≡ state_of (numbers_in b) → record_outcome b ≡ first_met (state_checks s)
@@ -117,27 +109,18 @@ module _ (b : List ℕ) where
   unfolding read_call
   read_refused {r} e {a} f = rw (e, never_accepted r, f)
 
-  pub read_accepted : record_outcome b ≡ Ok tt → {s : State} → s ≡ state_of (numbers_in b) → read_result (record { outcome = Ok tt; state = s }) (take (length b - 402) b) ≡ read_call b
+  pub read_accepted : record_outcome b ≡ Ok tt → {s : State} → s ≡ state_of (numbers_in b) → {n : ℕ} → n ≡ note_length b → read_result (record { outcome = Ok tt; state = s }) (take n b) ≡ read_call b
   unfolding read_call
-  read_accepted e f =
-      let k : length b - 402 ≡ note_length b = omega (arith, distance_accepted (bytes_accepted (ap is_accepted e))) in
-      rw (e, f, k)
+  read_accepted e f g = rw (e, f, g)
 
   module _ (y : is_accepted (record_outcome b) ≡ true) where
-    pub length_accepted : 402 ≤ length b
-    length_accepted = whole (bytes_accepted y)
-
     pub state_accepted : state_of (numbers_in b) ≡ (read_call b).answer.state
     unfolding read_call
     state_accepted = rw y
 
-    pub note_accepted : take (length b - 402) b ≡ (read_call b).note
+    pub note_accepted : note_of b ≡ (read_call b).note
     unfolding read_call
-    note_accepted =
-        let w = length_accepted in
-        let d = distance_accepted (bytes_accepted y) in
-        let k : length b - 402 ≡ note_length b = omega (arith, d) in
-        rw y (ap (λ (n : ℕ). take n b) k)
+    note_accepted = rw y
 
 outcome_of : (t : Bool) (o : Outcome) (r s : State) (m n : List ℕ) → (cond t (read_result (record { outcome = o; state = r }) m) (read_result (record { outcome = o; state = s }) n)).answer.outcome ≡ o
 outcome_of true o r s m n = refl

@@ -1,21 +1,23 @@
--- What stands behind the note of an accepted record is the record of its state. Assumes nothing.
+-- What stands behind the note of an accepted record is its state's numbers and its version's trailer. Assumes nothing.
 use mathlib.Core.Path.{◌≡◌, ap, ap₂, sym, ◌∙◌}
 use mathlib.Core.Bool.{true}
 use mathlib.Core.List.{List, [], ◌∷◌, ◌++◌}
-use Prim.Native.Nat.{ℕ, zero, suc, ◌+◌, ◌-◌, ◌≤◌}
+use Prim.Native.Nat.{ℕ, zero, suc, ◌+◌, ◌-◌, ◌*◌}
 use native.Mathlib.Omega.{arith}
-use lib.ListN.{length, take, drop, length-drop, take-append-drop}
-use lib.Seq.{drop-drop, get_or-drop, length-take-le}
+use lib.IntN.{ℤ}
+use lib.ListN.{length, take, drop, length-append, length-drop, take-append-drop}
+use lib.Seq.{drop-drop, get_or-drop, length-take-le, take_at}
 use Rattle.outcome.specs.Outcome.{is_accepted}
 use Rattle.outcome.specs.Checks.{first_met}
-use Rattle.state.specs.Layout.{numbers_of}
+use Rattle.state.specs.declared.State.{State}
+use Rattle.state.specs.Layout.{state_count, numbers_of}
 use Rattle.state.proofs.Numbers.{numbers_of_state}
-use Rattle.coding.specs.Bytes.{bytes_of, Bytes}
-use Rattle.record.specs.Record.{end_of, numbers_in, byte_checks, record_outcome, read_call, encoded}
+use Rattle.coding.specs.Bytes.{words, bytes_of, Bytes}
+use Rattle.record.specs.Record.{Trailer, end_of, trailer_in, note_length, numbers_in, trailer_checks, record_outcome, read_call, trailer_bytes}
 use Rattle.coding.proofs.Bytes.{bytes_back}
-use Rattle.coding.proofs.Laid.{bytes_length}
-use Rattle.record.proofs.Trailers.{trailer_is}
-use Rattle.record.proofs.Reader.{lent_body, bytes_accepted, trailer_accepted, whole, body_length_lem, lent_numbers, note_accepted, state_accepted}
+use Rattle.coding.proofs.Words.{words_length}
+use Rattle.record.proofs.Trailers.{Readable, readable, trailer_is}
+use Rattle.record.proofs.Reader.{bytes_accepted, trailer_accepted, whole, note_accepted, state_accepted}
 
 -- ---- bytes, and a part of them
 take_bytes : (n : ℕ) (b : List ℕ) → Bytes b → Bytes (take n b)
@@ -28,35 +30,48 @@ drop_bytes : (n : ℕ) (b : List ℕ) → Bytes b → Bytes (drop n b)
 drop_bytes n b f i = rw (get_or-drop n b i 0) (f (n + i))
 
 -- ---- an accepted record, behind its note
+-- a state's numbers as far as a version has them, and its trailer
+abbrev pub rest_by : Trailer → State → List ℕ
+rest_by t s = bytes_of (take t.count (numbers_of s)) ++ trailer_bytes t
+
 module _ (b : List ℕ) (bytes : Bytes b) (y : is_accepted (record_outcome b) ≡ true) where
-  shown : is_accepted (first_met (byte_checks b)) ≡ true
-  shown = bytes_accepted b y
+  abbrev t : Trailer
+  t = trailer_in b
 
-  note_length_lem : length (read_call b).note ≡ length b - 402
-  note_length_lem = ap length (sym (note_accepted b y)) ∙ length-take-le (length b - 402) b (omega arith)
+  abbrev body : List ℕ
+  body = take t.distance (drop (note_length b) b)
 
-  body_bytes : bytes_of (numbers_in b) ≡ lent_body b
-  body_bytes =
-      ap bytes_of (sym (lent_numbers b shown))
-      ∙ bytes_back 197 (lent_body b) (body_length_lem b shown) (take_bytes 394 (drop (length b - 402) b) (drop_bytes (length b - 402) b bytes))
+  shown : is_accepted (first_met (trailer_checks (end_of b))) ≡ true
+  shown = trailer_accepted b (bytes_accepted b y)
 
-  numbers_here : numbers_of (read_call b).answer.state ≡ numbers_in b
+  long : length b ≡ note_length b + (t.distance + 8)
+  long = whole b (bytes_accepted b y)
+
+  version : Readable t
+  version = readable (end_of b) shown
+
+  note_is : length (read_call b).note ≡ note_length b
+  note_is = ap length (sym (note_accepted b y)) ∙ length-take-le (note_length b) b (omega (arith, long))
+
+  body_length_lem : length body ≡ 2 * t.count
+  body_length_lem = length-take-le t.distance (drop (note_length b) b) (omega (arith, long, length-drop (note_length b) b)) ∙ version.twice
+
+  body_bytes : bytes_of (words body) ≡ body
+  body_bytes = bytes_back t.count body body_length_lem (take_bytes t.distance (drop (note_length b) b) (drop_bytes (note_length b) b bytes))
+
+  numbers_here : take t.count (numbers_of (read_call b).answer.state) ≡ words body
   numbers_here =
-      let e = ap length body_bytes in
-      let k : length (numbers_in b) ≡ 197 = omega (arith, e, bytes_length (numbers_in b), body_length_lem b shown) in
-      ap numbers_of (sym (state_accepted b y)) ∙ numbers_of_state (numbers_in b) k
+      let l = words_length body t.count body_length_lem in
+      let k : length (numbers_in b) ≡ state_count = omega (arith, length-append (words body) t.missing, l, version.whole) in
+      ap (λ (xs : List ℤ). take t.count xs) (ap numbers_of (sym (state_accepted b y)) ∙ numbers_of_state (numbers_in b) k) ∙ take_at (words body) t.missing t.count l
 
-  rest_parts : drop (length b - 402) b ≡ lent_body b ++ drop (length b - 8) b
+  rest_parts : drop (note_length b) b ≡ body ++ end_of b
   rest_parts =
-      let w = whole b shown in
-      let m : length b - 402 + 394 ≡ length b - 8 = omega (arith, w) in
-      sym (take-append-drop 394 (drop (length b - 402) b))
-      ∙ ap (λ (r : List ℕ). lent_body b ++ r) (drop-drop 394 (length b - 402) b ∙ ap (λ (n : ℕ). drop n b) m)
+      let m : note_length b + t.distance ≡ length b - 8 = omega (arith, long) in
+      sym (take-append-drop t.distance (drop (note_length b) b)) ∙ ap (λ (r : List ℕ). body ++ r) (drop-drop t.distance (note_length b) b ∙ ap (λ (n : ℕ). drop n b) m)
 
-  pub rest_is : drop (length (read_call b).note) b ≡ encoded (read_call b).answer.state
-  unfolding encoded
+  pub rest_is : drop (length (read_call b).note) b ≡ rest_by t (read_call b).answer.state
   rest_is =
-      let h : 8 ≤ length b = omega (arith, whole b shown) in
-      ap (λ (n : ℕ). drop n b) note_length_lem
+      ap (λ (n : ℕ). drop n b) note_is
       ∙ rest_parts
-      ∙ ap₂ ◌++◌ (sym body_bytes ∙ ap bytes_of (sym numbers_here)) (trailer_is (end_of b) (trailer_accepted b shown) (length-drop (length b - 8) b ∙ omega arith) (drop_bytes (length b - 8) b bytes))
+      ∙ ap₂ ◌++◌ (sym body_bytes ∙ ap bytes_of (sym numbers_here)) (trailer_is (end_of b) shown (length-drop (length b - 8) b ∙ omega (arith, long)) (drop_bytes (length b - 8) b bytes))

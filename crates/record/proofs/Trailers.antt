@@ -1,24 +1,54 @@
--- The last 8 bytes of a record. Assumes nothing.
-use mathlib.Core.Path.{◌≡◌, refl, ap, ◌∙◌}
-use mathlib.Core.Bool.{Bool, true, false, cond, ◌&&◌}
+-- The versions, and the last 8 bytes of a record. Assumes nothing.
+use mathlib.Core.Path.{◌≡◌, refl, sym, ◌∙◌, subst}
+use mathlib.Core.Bool.{Bool, true, false, cond}
 use mathlib.Core.List.{List, [], ◌∷◌}
-use Prim.Native.Nat.{ℕ}
+use Prim.Native.Nat.{ℕ, ◌+◌, ◌*◌, ◌/◌, ◌%◌, ◌<◌}
 use native.Mathlib.Omega.{arith}
-use lib.Dec.{eqb}
+use lib.Dec.{T, eqb}
 use lib.ListN.{length, get_or}
 use borrow.Author.Tests.{eqb-true, not-false}
 use Rattle.std.proofs.lemmas.Bool.{and_parts}
+use Rattle.lists.specs.Lists.{Every}
 use Rattle.outcome.specs.Outcome.{is_accepted}
 use Rattle.outcome.specs.Checks.{first_met}
 use Rattle.outcome.proofs.Checks.{none_met}
+use Rattle.state.specs.Layout.{state_count}
 use Rattle.coding.specs.Bytes.{bytes_of, Bytes}
-use Rattle.record.specs.Record.{Trailer, current, versions, trailer_of, field_at, trailer_checks, trailer_bytes}
+use Rattle.record.specs.Record.{Trailer, current, first, versions, known, trailer_of, field_at, trailer_checks, trailer_bytes}
+
+-- ---- the versions
+-- the trailers as document 02 has them
+pub trailers_are :
+    (trailer_bytes current ≡ 0x4D ∷ 0x37 ∷ 0x02 ∷ 0x00 ∷ 0xAA ∷ 0x01 ∷ 0xD5 ∷ 0x00 ∷ [])
+    × (trailer_bytes first ≡ 0x4D ∷ 0x37 ∷ 0x01 ∷ 0x00 ∷ 0x8A ∷ 0x01 ∷ 0xC5 ∷ 0x00 ∷ [])
+unfolding bytes_of
+trailers_are = (refl, refl)
+
+-- two bytes for each number; with those that are missing, as many as a state has; and its trailer is read as this version's
+pub record Readable (t : Trailer) : Type 0 where
+  pub twice : t.distance ≡ 2 * t.count
+  pub whole : t.count + length t.missing ≡ state_count
+  pub right : is_accepted (first_met (trailer_checks (trailer_bytes t))) ≡ true
+  pub found : trailer_of (field_at (trailer_bytes t) 2) versions ≡ t
+
+pub current_readable : Readable current
+unfolding first_met bytes_of
+current_readable = record { twice = refl; whole = refl; right = refl; found = refl }
+
+pub first_readable : Readable first
+unfolding first_met bytes_of
+first_readable = record { twice = refl; whole = refl; right = refl; found = refl }
+
+-- what holds of every trailer of a list holds of that of a version among them, which is this version's
+known_one : (P : Trailer → Type 0) (ts : List Trailer) → Every P ts → (v : ℕ) → known v ts ≡ true → P (trailer_of v ts) × ((trailer_of v ts).version ≡ v)
+known_one P [] e v h = absurd (subst T (sym h) tt)
+known_one P (t ∷ ts) e v h = go (eqb v t.version) refl h (known_one P ts e.1 v)
+  where
+    go : (b : Bool) → eqb v t.version ≡ b → cond b true (known v ts) ≡ true → (known v ts ≡ true → P (trailer_of v ts) × ((trailer_of v ts).version ≡ v)) → P (cond b t (trailer_of v ts)) × ((cond b t (trailer_of v ts)).version ≡ v)
+    go true f k rest = (e.0, sym (eqb-true v t.version f))
+    go false f k rest = rest k
 
 -- ---- what acceptance says, of the bytes too
-only_one : (s : Bool) → cond s true false ≡ true → s ≡ true
-only_one true h = refl
-only_one false h = h
-
 listed : (t : List ℕ) → length t ≡ 8 → t ≡ get_or t 0 0 ∷ get_or t 1 0 ∷ get_or t 2 0 ∷ get_or t 3 0 ∷ get_or t 4 0 ∷ get_or t 5 0 ∷ get_or t 6 0 ∷ get_or t 7 0 ∷ []
 listed [] l = absurd (omega (arith, l))
 listed (a ∷ []) l = absurd (omega (arith, l))
@@ -31,33 +61,29 @@ listed (a ∷ b ∷ c ∷ d ∷ e ∷ f ∷ g ∷ []) l = absurd (omega (arith, 
 listed (a ∷ b ∷ c ∷ d ∷ e ∷ f ∷ g ∷ h ∷ []) l = refl
 listed (a ∷ b ∷ c ∷ d ∷ e ∷ f ∷ g ∷ h ∷ x ∷ t) l = absurd (omega (arith, l))
 
+two_bytes : (x y n : ℕ) → x < 256 → x + 256 * y ≡ n → (x ≡ n % 256) × (y ≡ n / 256)
+two_bytes x y n h e = (omega arith, omega arith)
+
 module _ (t : List ℕ) (h : is_accepted (first_met (trailer_checks t)) ≡ true) where
-  version_one : eqb (field_at t 2) 1 ≡ true
-  version_one = only_one (eqb (field_at t 2) 1) (not-false _ (none_met (trailer_checks t) h).1.0)
+  abbrev v : Trailer
+  v = trailer_of (field_at t 2) versions
 
-  trailer_one : trailer_of (field_at t 2) versions ≡ current
-  trailer_one = rw (trailer_of, version_one)
+  version : Readable v × (v.version ≡ field_at t 2)
+  version = known_one Readable versions (current_readable, (first_readable, tt)) (field_at t 2) (not-false _ (none_met (trailer_checks t) h).1.0)
 
-  pub distance_is : (trailer_of (field_at t 2) versions).distance ≡ 394
-  distance_is = ap (λ (v : Trailer). v.distance) trailer_one
+  pub readable : Readable v
+  readable = version.0
 
-  layout : (field_at t 4 ≡ 394) × (field_at t 6 ≡ 197)
+  layout : (field_at t 4 ≡ v.distance) × (field_at t 6 ≡ v.count)
   layout =
-      let v = trailer_of (field_at t 2) versions in
-      let right : eqb (field_at t 4) v.distance && eqb (field_at t 6) v.count ≡ true = not-false _ (none_met (trailer_checks t) h).1.1.0 in
-      let l = and_parts (eqb (field_at t 4) current.distance) (eqb (field_at t 6) current.count) (rw trailer_one at right) in
-      (eqb-true (field_at t 4) 394 l.0, eqb-true (field_at t 6) 197 l.1)
+      let l = and_parts (eqb (field_at t 4) v.distance) (eqb (field_at t 6) v.count) (not-false _ (none_met (trailer_checks t) h).1.1.0) in
+      (eqb-true (field_at t 4) v.distance l.0, eqb-true (field_at t 6) v.count l.1)
 
-  pub trailer_is : length t ≡ 8 → Bytes t → t ≡ trailer_bytes
+  pub trailer_is : length t ≡ 8 → Bytes t → t ≡ trailer_bytes v
   unfolding bytes_of
   trailer_is k bytes =
       let m = and_parts (eqb (get_or t 0 0) 0x4D) (eqb (get_or t 1 0) 0x37) (not-false _ (none_met (trailer_checks t) h).0) in
-      let v = eqb-true (field_at t 2) 1 version_one in
-      let l = layout in
-      let b₂ : get_or t 2 0 ≡ 1 = omega (arith, v, bytes 2) in
-      let b₃ : get_or t 3 0 ≡ 0 = omega (arith, v, bytes 2) in
-      let b₄ : get_or t 4 0 ≡ 138 = omega (arith, l.0, bytes 4) in
-      let b₅ : get_or t 5 0 ≡ 1 = omega (arith, l.0, bytes 4) in
-      let b₆ : get_or t 6 0 ≡ 197 = omega (arith, l.1, bytes 6) in
-      let b₇ : get_or t 7 0 ≡ 0 = omega (arith, l.1, bytes 6) in
-      listed t k ∙ (λ i. eqb-true (get_or t 0 0) 0x4D m.0 i ∷ eqb-true (get_or t 1 0) 0x37 m.1 i ∷ b₂ i ∷ b₃ i ∷ b₄ i ∷ b₅ i ∷ b₆ i ∷ b₇ i ∷ [])
+      let a = two_bytes (get_or t 2 0) (get_or t 3 0) v.version (bytes 2) (sym version.1) in
+      let b = two_bytes (get_or t 4 0) (get_or t 5 0) v.distance (bytes 4) layout.0 in
+      let c = two_bytes (get_or t 6 0) (get_or t 7 0) v.count (bytes 6) layout.1 in
+      listed t k ∙ (λ i. eqb-true (get_or t 0 0) 0x4D m.0 i ∷ eqb-true (get_or t 1 0) 0x37 m.1 i ∷ a.0 i ∷ a.1 i ∷ b.0 i ∷ b.1 i ∷ c.0 i ∷ c.1 i ∷ [])

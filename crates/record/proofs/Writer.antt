@@ -18,18 +18,18 @@ use Rattle.outcome.proofs.Checks.{met, unmet}
 use Rattle.state.specs.declared.State.{State}
 use Rattle.state.specs.State.{state_checks}
 use Rattle.coding.proofs.Laid.{bytes_length}
-use Rattle.record.specs.Record.{trailer_bytes, encoded, write_checks, write_result, write_call}
+use Rattle.record.specs.Record.{Trailer, trailer_bytes, encoded, write_checks, write_result, write_call}
 
-pub trailer_length : length trailer_bytes ≡ 8
-trailer_length = omega (arith, bytes_length (pos 1 ∷ pos 394 ∷ pos 197 ∷ []))
+pub trailer_length : (t : Trailer) → length (trailer_bytes t) ≡ 8
+trailer_length t = omega (arith, bytes_length (pos t.version ∷ pos t.distance ∷ pos t.count ∷ []))
 
 -- ---- the call, of what its outcome is found to be
 module _ (s : State) (out : List ℕ) where
-  pub no_room : (length out ≡ 402 → ⊥) → Err OutputLength ≡ first_met (write_checks s (length out))
-  no_room n = met (not (eqb (length out) 402)) OutputLength (state_checks s) (ap not (ne_eqb (length out) 402 n))
+  pub no_room : (length out ≡ 434 → ⊥) → Err OutputLength ≡ first_met (write_checks s (length out))
+  no_room n = met (not (eqb (length out) 434)) OutputLength (state_checks s) (ap not (ne_eqb (length out) 434 n))
 
-  pub room_there : length out ≡ 402 → first_met (state_checks s) ≡ first_met (write_checks s (length out))
-  room_there h = unmet (not (eqb (length out) 402)) OutputLength (state_checks s) (ap not (eq-eqb (length out) 402 h))
+  pub room_there : length out ≡ 434 → first_met (state_checks s) ≡ first_met (write_checks s (length out))
+  room_there h = unmet (not (eqb (length out) 434)) OutputLength (state_checks s) (ap not (eq-eqb (length out) 434 h))
 
   pub write_accepted : Ok tt ≡ first_met (write_checks s (length out)) → {last : List ℕ} → last ≡ encoded s → write_result (Ok tt) last ≡ write_call s out
   unfolding write_call

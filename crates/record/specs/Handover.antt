@@ -1,10 +1,13 @@
 -- What document 01 asks of the two calls together. The theorems are in proofs/Handover.antt.
-use Rattle.std.specs.Prelude.{◌≡◌, Ok, true, List, ◌++◌, ℕ, length, drop}
+use Rattle.std.specs.Prelude.{◌≡◌, Ok, true, List, ◌++◌, ℕ, ℤ, length, drop}
+use Rattle.basicop.specs.Words.{Words}
 use Rattle.outcome.specs.Outcome.{is_accepted}
 use Rattle.state.specs.declared.State.{State}
+use Rattle.state.specs.Layout.{state_of}
 use Rattle.state.specs.State.{WellFormed, state_outcome}
-use Rattle.coding.specs.Bytes.{Bytes}
-use Rattle.record.specs.Record.{read_result, version_of, read_call, encoded}
+use Rattle.coding.specs.Bytes.{bytes_of, Bytes}
+use Rattle.coding.specs.Body.{missing}
+use Rattle.record.specs.Record.{first, read_result, version_of, read_call, trailer_bytes, encoded}
 
 -- what was written is read back, behind any note, with that note
 abbrev pub ReadBack : Type 0
@@ -15,6 +18,18 @@ ReadBack =
 -- the record of a well-formed state, behind any note, is accepted exactly when the checks of the state pass it: it is turned back by the same check
 abbrev pub SameOutcome : Type 0
 SameOutcome = (s : State) → WellFormed s → (note : List ℕ) → (read_call (note ++ encoded s)).answer.outcome ≡ state_outcome s
+
+-- a version 1 record of 197 numbers, behind any note, is read as the state of these and of the missing ones, with that note, where that state is accepted
+abbrev pub FirstRead : Type 0
+FirstRead =
+    (xs : List ℤ) → Words first.count xs → state_outcome (state_of (xs ++ missing)) ≡ Ok tt → (note : List ℕ)
+    → read_call (note ++ (bytes_of xs ++ trailer_bytes first)) ≡ read_result (record { outcome = Ok tt; state = state_of (xs ++ missing) }) note
+
+-- it is accepted exactly when the checks of the state pass it
+abbrev pub FirstOutcome : Type 0
+FirstOutcome =
+    (xs : List ℤ) → Words first.count xs → (note : List ℕ)
+    → (read_call (note ++ (bytes_of xs ++ trailer_bytes first))).answer.outcome ≡ state_outcome (state_of (xs ++ missing))
 
 -- two accepted records of the same version that give the same state differ at most in their notes
 abbrev pub SameRest : Type 0

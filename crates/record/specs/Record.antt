@@ -1,28 +1,37 @@
 -- The handover record of document 01: a note of any length; a body of signed 16-bit numbers; a trailer of 8 bytes, which are
 -- the tag 4D 37, and, 16 bits each, version, distance back from the trailer to the body, and count of the body's numbers.
-use Rattle.std.specs.Prelude.{Bool, true, false, cond, not, ◌&&◌, List, [], ◌∷◌, ◌++◌, ℕ, ◌+◌, ◌-◌, eqb, ltb, ℤ, pos, length, take, drop, get_or, replicate}
+-- Versions 2 and 1 are read (document 02, 7/13).
+use Rattle.std.specs.Prelude.{Bool, true, false, cond, not, ◌&&◌, List, [], ◌∷◌, ◌++◌, ℕ, ◌+◌, ◌-◌, ◌*◌, eqb, ltb, ℤ, pos}
+use Rattle.std.specs.Prelude.{length, take, drop, get_or, replicate}
 use Rattle.outcome.specs.declared.Refusal.TheVariants.{OutputLength, RecordShort, Tag, Version, Layout, BodyShort}
 use Rattle.outcome.specs.Outcome.{Outcome, is_accepted}
 use Rattle.outcome.specs.Checks.{Check, check, first_met}
 use Rattle.state.specs.declared.State.{State}
 use Rattle.state.specs.State.{state_checks}
-use Rattle.state.specs.Layout.{state_count, numbers_of, state_of}
+use Rattle.state.specs.Layout.{core_count, post_count, state_count, numbers_of, state_of}
 use Rattle.record.specs.declared.Answer.{Answer}
 use Rattle.coding.specs.Bytes.{unsigned, words, bytes_of}
-use Rattle.coding.specs.Body.{body_length}
+use Rattle.coding.specs.Body.{body_length, missing}
 
 -- ---- trailers
 pub record Trailer : Type 0 where
   pub version : ℕ
   pub distance : ℕ
   pub count : ℕ
+  -- the fields after these, as a record of this version is read
+  pub missing : List ℤ
 
--- the versions that are read; the first is the one that is written
+-- version 2, which is written: 426 bytes, 213 numbers
 abbrev pub current : Trailer
-current = record { version = 1; distance = body_length; count = state_count }
+current = record { version = 2; distance = body_length; count = state_count; missing = [] }
 
+-- version 1: 394 bytes, 197 numbers, those of core and postfilter
+abbrev pub first : Trailer
+first = record { version = 1; distance = 2 * (core_count + post_count); count = core_count + post_count; missing = missing }
+
+-- the versions that are read
 abbrev pub versions : List Trailer
-versions = current ∷ []
+versions = current ∷ first ∷ []
 
 -- whether a version is among them, and its trailer
 abbrev pub known : ℕ → List Trailer → Bool
@@ -30,7 +39,7 @@ known v [] = false
 known v (t ∷ ts) = cond (eqb v t.version) true (known v ts)
 
 abbrev pub trailer_of : ℕ → List Trailer → Trailer
-trailer_of v [] = record { version = v; distance = 0; count = 0 }
+trailer_of v [] = record { version = v; distance = 0; count = 0; missing = [] }
 trailer_of v (t ∷ ts) = cond (eqb v t.version) t (trailer_of v ts)
 
 -- ---- the parts of a record, by its last 8 bytes
@@ -47,9 +56,12 @@ tagged t = eqb (get_or t 0 0) 0x4D && eqb (get_or t 1 0) 0x37
 abbrev pub version_of : List ℕ → ℕ
 version_of b = field_at (end_of b) 2
 
+abbrev pub trailer_in : List ℕ → Trailer
+trailer_in b = trailer_of (version_of b) versions
+
 -- how far before the trailer the body begins, by the record's version
 abbrev pub distance_of : List ℕ → ℕ
-distance_of b = (trailer_of (version_of b) versions).distance
+distance_of b = (trailer_in b).distance
 
 abbrev pub note_length : List ℕ → ℕ
 note_length b = length b - 8 - distance_of b
@@ -57,9 +69,9 @@ note_length b = length b - 8 - distance_of b
 abbrev pub note_of : List ℕ → List ℕ
 note_of b = take (note_length b) b
 
--- the body's numbers
+-- the body's numbers, and then those that a record of its version has not
 abbrev pub numbers_in : List ℕ → List ℤ
-numbers_in b = words (take (distance_of b) (drop (note_length b) b))
+numbers_in b = words (take (distance_of b) (drop (note_length b) b)) ++ (trailer_in b).missing
 
 -- ---- the reader
 -- 11: under 8 bytes
@@ -114,12 +126,12 @@ read_call b =
     (read_result (refused_answer o) [])
 
 -- ---- the writer
-abbrev pub trailer_bytes : List ℕ
-trailer_bytes = 0x4D ∷ 0x37 ∷ bytes_of (pos current.version ∷ pos current.distance ∷ pos current.count ∷ [])
+abbrev pub trailer_bytes : Trailer → List ℕ
+trailer_bytes t = 0x4D ∷ 0x37 ∷ bytes_of (pos t.version ∷ pos t.distance ∷ pos t.count ∷ [])
 
 -- the bytes of a state's record, without a note
 unfoldable pub encoded : State → List ℕ
-encoded s = bytes_of (numbers_of s) ++ trailer_bytes
+encoded s = bytes_of (numbers_of s) ++ trailer_bytes current
 
 -- as many as they are
 abbrev pub record_length : ℕ

@@ -4,12 +4,13 @@
 ghost use Rattle.std.specs.Prelude.{◌≡◌, Ok, Err};
 ghost use Rattle.outcome.specs.Checks.{Checked};
 ghost use Rattle.state.specs.Layout.{state_of};
-ghost use Rattle.record.specs.Record.{numbers_in, record_outcome, refused_answer, read_call, read_result, trailer_bytes, encoded, write_result, write_call};
+ghost use Rattle.record.specs.Record.{current, note_length, numbers_in, record_outcome, refused_answer, read_call, read_result, trailer_bytes, encoded, write_result, write_call};
 
 mod checks;
+mod version;
 
-use checks::body_of;
-use coding::BODY_BYTES;
+use checks::{Found, found_in};
+use coding::{BODY_BYTES, SIGNAL_BYTES};
 use outcome::{Outcome, Refusal};
 use state::State;
 
@@ -18,16 +19,13 @@ const TRAILER_BYTES: usize = 8;
 
 const TAG: [u8; 2] = *b"M7";
 
-const VERSION: u16 = 1;
+const FIELDS: [i16; 3] = [2, BODY_BYTES as i16, state::NUMBERS as i16];
 
-const DISTANCE: u16 = BODY_BYTES as u16;
-
-const COUNT: u16 = state::NUMBERS as u16;
-
-const FIELDS: [i16; 3] = [VERSION as i16, DISTANCE as i16, COUNT as i16];
-
-// A record without a note: the body and the trailer.
+// A record without a note, as it is written: the body and the trailer.
 pub const RECORD_BYTES: usize = BODY_BYTES + TRAILER_BYTES;
+
+// A version 1 record without a note.
+pub const FIRST_RECORD_BYTES: usize = SIGNAL_BYTES + TRAILER_BYTES;
 
 // The outcome and the state of a read.
 #[derive(Drop)]
@@ -43,37 +41,36 @@ pub struct Reading<'a> {
     pub note: &'a [u8],
 }
 
-// A refused read gives the all-zero state.
+// A refused read gives the all-zero state, that of zero bytes.
 fn refused(refusal: Refusal) -> Answer
     ensures { result ≡ refused_answer (Err refusal) }
 {
-    let state = State::default();
     Answer {
         outcome: Err(refusal),
-        state,
+        state: coding::state_in(&[0; BODY_BYTES]),
     }
 }
 
-// The state of a record: 11 to 15 are tested of the bytes, 16 and 17 of the state in them.
-fn read_state(bytes: &[u8]) -> Result<State, Refusal>
-    ensures { Checked result (record_outcome bytes.now) (λ s. s ≡ state_of (numbers_in bytes.now)) }
+// What a record holds: 11 to 15 are tested of the bytes, 16 to 19 of the state in them.
+fn read_state(bytes: &[u8]) -> Result<Found, Refusal>
+    ensures { Checked result (record_outcome bytes.now) (λ f. (f.state ≡ state_of (numbers_in bytes.now)) × (f.note_length ≡ note_length bytes.now)) }
 {
-    let state = coding::state_in(body_of(bytes)?);
-    state::check_state(state)?;
-    Ok(state)
+    let found = found_in(bytes)?;
+    state::check_state(found.state)?;
+    Ok(found)
 }
 
-// Reads a record. The note is what stands before the body: a part of the lent bytes, not a copy; none of them where the read is refused.
+// Reads a record of either version. The note is what stands before the body: a part of the lent bytes, not a copy; none of them where the read is refused.
 pub fn read<'a>(bytes: &'a [u8]) -> Reading<'a>
     ensures { (read_result result.answer result.note.now ≡ read_call bytes.now) × (result.note.ref_ptr ≡ bytes.entry.ref_ptr) }
 {
     match read_state(bytes) {
-        Ok(state) => Reading {
+        Ok(found) => Reading {
             answer: Answer {
                 outcome: Ok(()),
-                state,
+                state: found.state,
             },
-            note: &bytes[..bytes.len() - RECORD_BYTES],
+            note: &bytes[..found.note_length],
         },
         Err(refusal) => Reading {
             answer: refused(refusal),
@@ -99,7 +96,7 @@ pub fn note(bytes: &[u8]) -> &[u8]
 
 // ---- the writer
 fn write_trailer(out: &mut [u8; TRAILER_BYTES])
-    ensures { out.new ≡ trailer_bytes }
+    ensures { out.new ≡ trailer_bytes current }
 {
     let (tag, fields) = out.split_at_mut(TAG.len());
     tag.copy_from_slice(&TAG);
@@ -115,7 +112,7 @@ fn write_record(state: State, out: &mut [u8; RECORD_BYTES])
     write_trailer(trailer.as_mut_array().unwrap());
 }
 
-// Writes the record of a state, without a note. Turned back, in this order: 5, the lent bytes are not as many as a record's; 16, 17.
+// Writes the record of a state, without a note. Turned back, in this order: 5, the lent bytes are not as many as a record's; 16 to 19.
 pub fn write(state: State, out: &mut [u8]) -> Outcome
     ensures { write_result result out.new ≡ write_call state out.old }
 {

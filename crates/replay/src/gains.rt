@@ -1,10 +1,9 @@
 // Gains from their index on their records: the call of an index, and the frame call of an index sheet. Inputs, then the answers of the reference.
-use super::compare::{rows_same, state_same};
+use super::compare::{energies_agree, outcome_agrees, refusal_agrees};
 use super::words::Reader;
 use basicop::Q13;
 use coding::BODY_BYTES;
 use gain::GainDecoder;
-use lpc::Rows;
 
 // Gains and energies of an accepted call.
 pub fn decode(record: &mut Reader) -> Option<bool> {
@@ -41,15 +40,14 @@ pub fn refused(record: &mut Reader) -> Option<bool> {
     );
     let gains = answer.gains;
     Some(
-        u64::from(record.bits()?) == outcome::number(answer.outcome)
-            && usize::from(record.bits()?) == outcome::place(answer.outcome)
+        outcome_agrees(record, answer.outcome)?
             && gains.pitch.0 == 0
             && gains.code.0 == 0
             && gains.next.energies == energies,
     )
 }
 
-// A whole frame: samples, places, rows, next state and energies of an accepted call.
+// A whole frame of an index sheet.
 pub fn frame(record: &mut Reader) -> Option<bool> {
     let sheet: [i16; 178] = record.numbers()?;
     let state = coding::state_in(record.array::<BODY_BYTES>()?);
@@ -60,19 +58,10 @@ pub fn frame(record: &mut Reader) -> Option<bool> {
     };
     let mut samples = [0; 160];
     let answer = mr74::frame_indexed(&sheet, state, &logs, &pows, decoder, &mut samples);
-    let frame = answer.frame;
-    Some(
-        frame.outcome.is_ok()
-            && record.numbers()? == samples
-            && record.places()? == frame.places
-            && rows_same(record.rows()?, frame.rows)
-            && state_same(record.array::<BODY_BYTES>()?, frame.next)
-            && record.numbers()? == answer.next.energies,
-    )
+    energies_agree(record, &answer, samples)
 }
 
-// A refused call of an index sheet names the recorded number and place, gives rows of zeros, places 40, state and energies as they came, and leaves the
-// lent output as it was.
+// A refused call of an index sheet, which gives the energies as they came.
 pub fn refused_frame(record: &mut Reader) -> Option<bool> {
     let n = usize::from(record.bits()?);
     let room = usize::from(record.bits()?);
@@ -92,14 +81,5 @@ pub fn refused_frame(record: &mut Reader) -> Option<bool> {
         GainDecoder { energies },
         lent.get_mut(..room)?,
     );
-    let frame = answer.frame;
-    Some(
-        u64::from(record.bits()?) == outcome::number(frame.outcome)
-            && usize::from(record.bits()?) == outcome::place(frame.outcome)
-            && frame.places == [40; 4]
-            && rows_same(Rows::default(), frame.rows)
-            && state_same(before, frame.next)
-            && answer.next.energies == energies
-            && lent == [0x5555; 200],
-    )
+    Some(refusal_agrees(record, &answer.frame, before, lent)? && answer.next.energies == energies)
 }

@@ -1,10 +1,12 @@
-// Runs the recorded answers of the reference, the files of data/, through the stages and the five calls, and says for each file how many records there are
+// Runs the recorded answers of the reference, the files of data/, through the stages and the six calls, and says for each file how many records there are
 // and how many differ. A record is a row of 16-bit words, low byte first: inputs, then answers.
 #![tactic(auto)]
 
 ghost use Rattle.std.specs.Prelude.{◌≤◌};
 
 mod compare;
+mod concealment;
+mod erased;
 mod filters;
 mod frames;
 mod gains;
@@ -88,12 +90,19 @@ fn file<F: Fn(&mut Reader) -> Option<bool>>(
     )
 }
 
+// The version 1 record of zeros, and the record of its state.
 fn cut_records(rt: &impl Print) -> io::Result<()> {
+    let first = records::first_zeros();
+    let read = outcome::number(record::answer_of(&first).outcome);
+    let different = records::cuts(&first);
+    println!(rt; "version 1 record of zeros: {read} read, 402 cuts, {different} different")?;
     let mut r = [0; record::RECORD_BYTES];
     let written = outcome::number(records::write_zeros(&mut r));
     let read = outcome::number(record::answer_of(&r).outcome);
     let different = records::cuts(&r);
-    println!(rt; "record of zeros: {written} written, {read} read, 402 cuts, {different} different")
+    println!(rt;
+        "record of its state: {written} written, {read} read, 434 cuts, {different} different"
+    )
 }
 
 fn main(rt: HostRuntime) -> io::Result<()> {
@@ -109,14 +118,21 @@ fn main(rt: HostRuntime) -> io::Result<()> {
     file(&rt, "gain_control.bin", 122, filters::gain_control)?;
     file(&rt, "synthesis.bin", 112, filters::synthesis)?;
     file(&rt, "postfilter.bin", 408, filters::postfilter)?;
-    file(&rt, "frame_kept.bin", 784, frames::frame)?;
-    file(&rt, "frame_extreme.bin", 784, frames::frame)?;
-    file(&rt, "refused.bin", 385, frames::refused)?;
-    file(&rt, "record_read.bin", 410, records::record_read)?;
-    file(&rt, "record_write.bin", 400, records::record_write)?;
+    file(&rt, "frame_kept.bin", 816, frames::frame)?;
+    file(&rt, "frame_extreme.bin", 816, frames::frame)?;
+    file(&rt, "refused.bin", 401, frames::refused)?;
+    file(&rt, "record_read.bin", 443, records::record_read)?;
+    file(&rt, "record_write.bin", 433, records::record_write)?;
     file(&rt, "gain_decode.bin", 117, gains::decode)?;
     file(&rt, "gain_refused.bin", 79, gains::refused)?;
-    file(&rt, "frame_indexed.bin", 854, gains::frame)?;
-    file(&rt, "refused_indexed.bin", 461, gains::refused_frame)?;
+    file(&rt, "frame_indexed.bin", 886, gains::frame)?;
+    file(&rt, "refused_indexed.bin", 477, gains::refused_frame)?;
+    file(&rt, "pitch_conceal.bin", 9, concealment::pitch)?;
+    file(&rt, "conceal_energy.bin", 8, concealment::energy)?;
+    file(&rt, "gain_conceal.bin", 31, concealment::conceal)?;
+    file(&rt, "gain_update.bin", 33, concealment::update)?;
+    file(&rt, "frame_erased.bin", 813, erased::frame)?;
+    file(&rt, "frame_mixed.bin", 891, erased::mixed)?;
+    file(&rt, "refused_erased.bin", 405, erased::refused)?;
     cut_records(&rt)
 }

@@ -1,20 +1,20 @@
 // The handover record's calls on their records: what the call is given, then the answers of the reference.
-ghost use Rattle.std.specs.Prelude.{◌<◌};
+ghost use Rattle.std.specs.Prelude.{◌<◌, length};
 
-use super::compare::state_same;
+use super::compare::{outcome_agrees, state_same};
 use super::words::Reader;
-use coding::BODY_BYTES;
+use coding::{BODY_BYTES, SIGNAL_BYTES};
 use outcome::{Outcome, Refusal};
-use record::RECORD_BYTES;
+use record::{FIRST_RECORD_BYTES, RECORD_BYTES};
 
-// Refusal, note's length and state that the reader gives.
+// Refusal and place, note's length and state that the reader gives.
 pub fn record_read(record: &mut Reader) -> Option<bool> {
     let n = usize::from(record.bits()?);
-    let bytes = record.array::<420>()?.get(..n)?;
+    let bytes = record.array::<452>()?.get(..n)?;
     let answer = record::answer_of(bytes);
     let note = record::note(bytes);
     Some(
-        u64::from(record.bits()?) == outcome::number(answer.outcome)
+        outcome_agrees(record, answer.outcome)?
             && usize::from(record.bits()?) == note.len()
             && state_same(record.array::<BODY_BYTES>()?, answer.state),
     )
@@ -24,23 +24,23 @@ pub fn record_read(record: &mut Reader) -> Option<bool> {
 pub fn record_write(record: &mut Reader) -> Option<bool> {
     let n = usize::from(record.bits()?);
     let state = coding::state_in(record.array::<BODY_BYTES>()?);
-    let mut lent = [0x55; 420];
+    let mut lent = [0x55; 452];
     let outcome = record::write(state, lent.get_mut(..n)?);
-    let refusal = u64::from(record.bits()?);
+    let told = outcome_agrees(record, outcome)?;
     let written = record.array::<RECORD_BYTES>()?;
-    let mut expected = [0x55; 420];
-    if refusal == 0 {
+    let mut expected = [0x55; 452];
+    if outcome.is_ok() {
         expected[..RECORD_BYTES].copy_from_slice(written);
     }
-    Some(outcome::number(outcome) == refusal && lent == expected)
+    Some(told && lent == expected)
 }
 
 // The first n and the last n bytes of a record of zeros: both are under 8 bytes, or the first lack the tag and the last the body.
-fn cut_refused(zeros: &[u8; RECORD_BYTES], n: usize) -> bool
-    requires { n < RECORD_BYTES }
+fn cut_refused(zeros: &[u8], n: usize) -> bool
+    requires { n < length zeros.now }
 {
     let first = record::answer_of(&zeros[..n]).outcome;
-    let last = record::answer_of(&zeros[RECORD_BYTES - n..]).outcome;
+    let last = record::answer_of(&zeros[zeros.len() - n..]).outcome;
     if n < 8 {
         first == Err(Refusal::RecordShort) && last == Err(Refusal::RecordShort)
     } else {
@@ -49,13 +49,18 @@ fn cut_refused(zeros: &[u8; RECORD_BYTES], n: usize) -> bool
 }
 
 // How many lengths below a record's give another refusal.
-pub fn cuts(zeros: &[u8; RECORD_BYTES]) -> usize {
-    (0..RECORD_BYTES)
-        .filter(|n| !cut_refused(zeros, *n))
-        .count()
+pub fn cuts(zeros: &[u8]) -> usize {
+    (0..zeros.len()).filter(|n| !cut_refused(zeros, *n)).count()
 }
 
-// The record of the state of zeros, put into the lent bytes.
+// The version 1 record of zeros: tag, version 1, distance 394, count 197 behind them.
+pub fn first_zeros() -> [u8; FIRST_RECORD_BYTES] {
+    let mut bytes = [0; FIRST_RECORD_BYTES];
+    bytes[SIGNAL_BYTES..].copy_from_slice(&[0x4D, 0x37, 1, 0, 0x8A, 1, 0xC5, 0]);
+    bytes
+}
+
+// The record of its state, zeros but for the last lag, put into the lent bytes.
 pub fn write_zeros(lent: &mut [u8]) -> Outcome {
-    record::write(coding::state_in(&[0; BODY_BYTES]), lent)
+    record::write(coding::first_state_in(&[0; SIGNAL_BYTES]), lent)
 }

@@ -12,6 +12,11 @@ pub fn lsp(record: &mut Reader) -> Option<bool> {
     Some(record.numbers()? == spectral::lsf_to_lsp(lsf))
 }
 
+// Whole samples, then the thirds.
+pub fn lag_agrees(record: &mut Reader, lag: PitchLag) -> Option<bool> {
+    Some(record.bits()? == lag.samples && record.number()? == lag.fraction.thirds())
+}
+
 pub fn lag(record: &mut Reader) -> Option<bool> {
     let relative = record.bits()? == 1;
     let index = u8::try_from(record.bits()?).ok()?;
@@ -24,7 +29,7 @@ pub fn lag(record: &mut Reader) -> Option<bool> {
     } else {
         PitchLag::from_absolute(index)
     };
-    Some(record.bits()? == lag.samples && record.number()? == lag.fraction.thirds())
+    lag_agrees(record, lag)
 }
 
 pub fn coefficient(record: &mut Reader) -> Option<bool> {

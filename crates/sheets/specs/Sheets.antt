@@ -1,4 +1,4 @@
--- What a program of the bench reads: a record, then sheets one by one. Document 01, "The bench program's lines".
+-- What a program of the bench reads: a version 1 record, then sheets one by one. Document 01, "The bench program's lines".
 use Rattle.std.specs.Prelude.{Bool, true, false, cond, List, [], ℕ, ◌+◌, ◌/◌, pos, length, replicate}
 use Rattle.std.specs.declared.ops.ControlFlow.{ControlFlow}
 use Rattle.std.specs.declared.ops.ControlFlow.TheVariants.{Continue, Break}
@@ -6,14 +6,14 @@ use Rattle.lists.specs.Parts.{cut}
 use Rattle.state.specs.declared.State.{State}
 use Rattle.outcome.specs.Outcome.{number_of, is_accepted}
 use Rattle.coding.specs.Bytes.{words}
-use Rattle.record.specs.Record.{read_call}
+use Rattle.record.specs.Record.{first, read_call}
 use Rattle.mr74.specs.Frame.{CallResult, frame_call}
 use Rattle.lines.specs.Lines.{state_line}
 use Rattle.sheets.specs.declared.Step.{Step}
 
--- the record's bytes
+-- the record's bytes: 402, those of a version 1 record
 abbrev pub record_bytes : ℕ
-record_bytes = 402
+record_bytes = first.distance + 8
 
 -- a sheet's bytes
 abbrev pub sheet_bytes : ℕ

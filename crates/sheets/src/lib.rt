@@ -1,4 +1,4 @@
-// What a program of the bench reads: a record, then sheets one by one.
+// What a program of the bench reads: a version 1 record, then sheets one by one.
 #![tactic(auto)]
 
 ghost use Rattle.std.specs.Prelude.{◌≡◌, ◌<◌, ◌^◌, ℕ, List, length, take, IfOk};
@@ -10,7 +10,7 @@ ghost use Rattle.sheets.specs.Reading.{TakesFirst};
 
 use lines::Line;
 use mr74::{FrameAnswer, SAMPLES, SHEET, SHEET_BYTES};
-use record::{Answer, RECORD_BYTES};
+use record::{Answer, FIRST_RECORD_BYTES};
 use state::State;
 use std::io;
 use std::io::Read;
@@ -72,11 +72,11 @@ pub fn open_call(bytes: &[u8]) -> Step<Line>
     }
 }
 
-// Reads the record from the input, and takes the first step on what came of it.
+// Reads the record from the input, as many bytes as one of version 1 has, and takes the first step on what came of it.
 pub fn read_record<R: Read>(input: &mut R) -> io::Result<Step<Line>>
     ensures { IfOk result (λ s. (came : List ℕ) × TakesFirst (R.remaining input.old) (R.remaining input.new) record_bytes came × (told step_result s ≡ opening_step came)) }
 {
-    on_bytes::<RECORD_BYTES, _, _, _>(input, |bytes| open_call(bytes))
+    on_bytes::<FIRST_RECORD_BYTES, _, _, _>(input, |bytes| open_call(bytes))
 }
 
 // ---- a sheet

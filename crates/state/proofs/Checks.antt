@@ -1,21 +1,62 @@
 -- What a state has shown that its checks accept. Assumes nothing.
-use mathlib.Core.Path.{◌≡◌}
-use mathlib.Core.Bool.{true}
-use lib.IntN.{pos}
+use mathlib.Core.Path.{◌≡◌, refl}
+use mathlib.Core.List.{List, [], ◌∷◌, ◌++◌}
+use Prim.Native.Nat.{ℕ, ◌+◌, ◌≤◌, ◌<◌}
+use native.Mathlib.Omega.{arith}
+use borrow.Author.Tests.{ltb-false, le-ltb}
+use lib.Dec.{ltb}
+use mathlib.Core.Bool.{true, false, ◌||◌}
+use lib.IntN.{ℤ, pos}
+use lib.ListN.{length, take, drop, length-append, length-take}
+use lib.Seq.{get_or_at}
 use lib.Signed.{◌≤ℤ◌, lt_z}
 use Rattle.std.proofs.lemmas.Bool.{or_parts}
 use Rattle.basicop.proofs.Tests.{less_no, no_less}
 use Rattle.std.specs.Prelude.{Ok}
+use Rattle.outcome.specs.declared.Refusal.TheVariants.{GainField}
 use Rattle.outcome.specs.Outcome.{is_accepted}
-use Rattle.outcome.specs.Checks.{first_met}
-use Rattle.outcome.proofs.Checks.{Placed, none_placed, none_met}
+use Rattle.outcome.specs.Checks.{first_met, first_outside}
+use Rattle.outcome.proofs.Ranges.{in_ranges, from_zero, own_limits}
+use Rattle.outcome.proofs.Checks.{Placed, found_placed, none_met}
+use Rattle.gain_concealment.specs.Laws.{Kept}
+use Rattle.state.specs.declared.Concealment.{Concealment}
 use Rattle.state.specs.declared.State.{State}
+use Rattle.state.specs.Layout.{pair_numbers, gain_numbers, concealment_of, state_of}
+use Rattle.state.proofs.Fields.{every_parts, kept_fields, fields_kept}
 use Rattle.state.specs.State.{state_checks, state_outcome}
+
+-- what an erased frame goes by
+pub record Concealing (c : Concealment) : Type 0 where
+  pub gains : Kept c.gains
+  pub mark : (pos 0 ≤ℤ c.erased) × (c.erased ≤ℤ pos 1)
+  pub from : pos 19 ≤ℤ c.last_lag
+  pub to : c.last_lag ≤ℤ pos 144
+
+abbrev pub fields : Concealment → List ℤ
+fields c = gain_numbers c.gains ++ (c.erased ∷ [])
+
+abbrev limits : Concealment → List ℤ
+limits c = gain_numbers c.gains ++ (pos 1 ∷ [])
+
+concealing : (c : Concealment) → ltb (first_outside (fields c) (limits c)) (length (fields c)) ≡ false → lt_z c.last_lag (pos 19) || lt_z (pos 144) c.last_lag ≡ false → Concealing c
+concealing c m l =
+    let all = ltb-false (first_outside (fields c) (limits c)) (length (fields c)) m in
+    let every = every_parts _ (gain_numbers c.gains) (c.erased ∷ []) (from_zero (fields c) (limits c) all) in
+    let n = or_parts (lt_z c.last_lag (pos 19)) (lt_z (pos 144) c.last_lag) l in
+    let long = length-append (gain_numbers c.gains) (c.erased ∷ []) in
+    let last = (in_ranges (fields c) (limits c) (length (gain_numbers c.gains)) (omega (arith, all, long))).1 in
+    record {
+      gains = fields_kept c.gains every.0;
+      mark = (every.1.0, rw (get_or_at (gain_numbers c.gains) c.erased [] (pos 0) _ refl, get_or_at (gain_numbers c.gains) (pos 1) [] (pos 0) _ refl) at last);
+      from = less_no n.0;
+      to = less_no n.1;
+    }
 
 pub record InRange (s : State) : Type 0 where
   pub from : pos 0 ≤ℤ s.core.sharpening.0
   pub to : s.core.sharpening.0 ≤ℤ pos 13017
   pub gain : pos 0 ≤ℤ s.post.gain.previous_gain
+  pub concealment : Concealing s.concealment
 
 pub in_range : (s : State) → is_accepted (first_met (state_checks s)) ≡ true → InRange s
 in_range s h =
@@ -26,12 +67,34 @@ in_range s h =
       from = less_no n.0;
       to = less_no n.1;
       gain = less_no u.1.0;
+      concealment = concealing s.concealment u.1.1.0 u.1.1.1.0;
     }
 
 -- and such a state is accepted
+none_outside : (c : Concealment) → Concealing c → ltb (first_outside (fields c) (limits c)) (length (fields c)) ≡ false
+unfolding first_outside
+none_outside c k =
+    le-ltb (first_outside (fields c) (limits c)) (length (fields c))
+    (rw (own_limits (gain_numbers c.gains) (c.erased ∷ []) (pos 1 ∷ []) (kept_fields c.gains k.gains), no_less c.erased (pos 0) k.mark.0, no_less (pos 1) c.erased k.mark.1)
+    (let long = length-append (gain_numbers c.gains) (c.erased ∷ []) in omega (arith, long)))
+
 pub in_range_accepted : (s : State) → InRange s → state_outcome s ≡ Ok tt
 unfolding state_outcome first_met
-in_range_accepted s k = rw (no_less s.core.sharpening.0 (pos 0) k.from, no_less (pos 13017) s.core.sharpening.0 k.to, no_less s.post.gain.previous_gain (pos 0) k.gain)
+in_range_accepted s k =
+    let c = s.concealment in
+    rw (no_less s.core.sharpening.0 (pos 0) k.from, no_less (pos 13017) s.core.sharpening.0 k.to, no_less s.post.gain.previous_gain (pos 0) k.gain, none_outside c k.concealment)
+    (rw (no_less c.last_lag (pos 19) k.concealment.from, no_less (pos 144) c.last_lag k.concealment.to))
 
-pub state_placed : (s : State) → Placed (state_checks s)
-state_placed s = none_placed (state_checks s) tt
+-- the places of a state whose fives are no longer than fives, as they are of every state that is taken from numbers
+pub state_placed : (s : State) → length (fields s.concealment) ≤ 15 → Placed (state_checks s)
+state_placed s l =
+    let place : (k : ℕ) → k < length (fields s.concealment) → 198 + k < 256 = λ k h. omega (arith, l, h) in
+    (λ m. omega arith, (λ m. omega arith, (found_placed (λ (k : ℕ). GainField (198 + k)) _ (length (fields s.concealment)) place, (λ m. omega arith, tt))))
+
+pub taken_fields : (xs : List ℤ) → length (fields (state_of xs).concealment) ≤ 15
+unfolding state_of concealment_of
+taken_fields xs =
+    let c = (state_of xs).concealment in
+    let rest = pair_numbers c.gains.past ++ pair_numbers c.gains.last_good in
+    let ys = drop 1 (take 16 (drop 22 (drop 175 xs))) in
+    omega (arith, length-append (gain_numbers c.gains) (c.erased ∷ []), length-append c.gains.pitch_history (c.gains.code_history ++ rest), length-append c.gains.code_history rest, length-take 5 ys, length-take 5 (drop 5 ys))

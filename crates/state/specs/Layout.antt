@@ -1,9 +1,12 @@
 -- How a state is laid out as numbers: document 01, "The handover record", the body.
-use Rattle.std.specs.Prelude.{List, [], ◌∷◌, map, ℕ, ℤ}
+use Rattle.std.specs.Prelude.{List, [], ◌∷◌, ◌++◌, map, ℕ, ℤ}
 use Rattle.lists.specs.Lists.{at}
 use Rattle.lists.specs.Parts.{joined, total, cut, part_at}
 use Rattle.decoder.specs.declared.Core.{Core}
 use Rattle.postfilter.specs.declared.Postfilter.{Postfilter}
+use Rattle.gain_concealment.specs.declared.GainPair.{GainPair}
+use Rattle.gain_concealment.specs.declared.GainConcealment.{GainConcealment}
+use Rattle.state.specs.declared.Concealment.{Concealment}
 use Rattle.state.specs.declared.State.{State}
 
 -- a part of what is laid out: how many numbers it has, and which they are
@@ -97,11 +100,73 @@ post_from ps =
 unfoldable pub post_of : List ℤ → Postfilter
 post_of xs = post_from (cut (counts post_parts) xs)
 
--- ---- the state: the core and the postfilter
-abbrev pub state_parts : List (Part State)
-state_parts = part core_count (λ (s : State). core_numbers s.core) ∷ part post_count (λ (s : State). post_numbers s.post) ∷ []
+-- ---- the concealment
+-- last lag
+abbrev pub last_lag_part : Part Concealment
+last_lag_part = one (λ (c : Concealment). c.last_lag)
 
--- 197
+-- five pitch gains, oldest first
+abbrev pub pitch_history_part : Part Concealment
+pitch_history_part = part 5 (λ (c : Concealment). c.gains.pitch_history)
+
+-- five code gains, oldest first
+abbrev pub code_history_part : Part Concealment
+code_history_part = part 5 (λ (c : Concealment). c.gains.code_history)
+
+-- pitch first
+abbrev pub pair_numbers : GainPair → List ℤ
+pair_numbers p = p.pitch.0 ∷ p.code.0 ∷ []
+
+-- past gains
+abbrev pub past_part : Part Concealment
+past_part = part 2 (λ (c : Concealment). pair_numbers c.gains.past)
+
+-- last good gains
+abbrev pub last_good_part : Part Concealment
+last_good_part = part 2 (λ (c : Concealment). pair_numbers c.gains.last_good)
+
+-- erased mark
+abbrev pub erased_part : Part Concealment
+erased_part = one (λ (c : Concealment). c.erased)
+
+-- 197, 198..202, 203..207, 208 and 209, 210 and 211, 212
+abbrev pub concealment_parts : List (Part Concealment)
+concealment_parts = last_lag_part ∷ pitch_history_part ∷ code_history_part ∷ past_part ∷ last_good_part ∷ erased_part ∷ []
+
+-- 16
+abbrev pub concealment_count : ℕ
+concealment_count = total (counts concealment_parts)
+
+unfoldable pub concealment_numbers : Concealment → List ℤ
+concealment_numbers c = joined (parts_in concealment_parts c)
+
+abbrev pub pair_from : List ℤ → GainPair
+pair_from xs = record { pitch = record { 0 = at xs 0 }; code = record { 0 = at xs 1 } }
+
+abbrev pub concealment_from : List (List ℤ) → Concealment
+concealment_from ps =
+    record {
+      last_lag = at (part_at ps 0) 0;
+      gains = record { pitch_history = part_at ps 1; code_history = part_at ps 2; past = pair_from (part_at ps 3); last_good = pair_from (part_at ps 4) };
+      erased = at (part_at ps 5) 0;
+    }
+
+unfoldable pub concealment_of : List ℤ → Concealment
+concealment_of xs = concealment_from (cut (counts concealment_parts) xs)
+
+-- fields 198..=211: the gains
+abbrev pub gain_numbers : GainConcealment → List ℤ
+gain_numbers g = g.pitch_history ++ (g.code_history ++ (pair_numbers g.past ++ pair_numbers g.last_good))
+
+-- ---- the state: the core, the postfilter and the concealment
+abbrev pub state_parts : List (Part State)
+state_parts =
+    part core_count (λ (s : State). core_numbers s.core)
+    ∷ part post_count (λ (s : State). post_numbers s.post)
+    ∷ part concealment_count (λ (s : State). concealment_numbers s.concealment)
+    ∷ []
+
+-- 213
 abbrev pub state_count : ℕ
 state_count = total (counts state_parts)
 
@@ -109,7 +174,7 @@ unfoldable pub numbers_of : State → List ℤ
 numbers_of s = joined (parts_in state_parts s)
 
 abbrev pub state_from : List (List ℤ) → State
-state_from ps = record { core = core_of (part_at ps 0); post = post_of (part_at ps 1) }
+state_from ps = record { core = core_of (part_at ps 0); post = post_of (part_at ps 1); concealment = concealment_of (part_at ps 2) }
 
 unfoldable pub state_of : List ℤ → State
 state_of xs = state_from (cut (counts state_parts) xs)

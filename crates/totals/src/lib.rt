@@ -14,7 +14,7 @@ mod sums;
 pub use line::{mean, report_line};
 use lines::Line;
 use mr74::SHEET_BYTES;
-use record::RECORD_BYTES;
+use record::FIRST_RECORD_BYTES;
 use sheets::{Decoded, Step};
 use shift_report::Totals;
 use state::State;
@@ -77,7 +77,7 @@ pub fn run(bytes: &[u8], first: State) -> Totals
 pub fn report(input: &[u8]) -> Line
     ensures { result ≡ report_output input.now }
 {
-    let (record, rest) = input.split_at(RECORD_BYTES.min(input.len()));
+    let (record, rest) = input.split_at(FIRST_RECORD_BYTES.min(input.len()));
     let opening = sheets::open_call(record);
     match opening.next {
         ControlFlow::Continue(state) => report_line(run(rest, state)),

@@ -1,7 +1,7 @@
 // The gains of indices, and a frame of an index sheet: with the tables of logarithm and power as TS 26.073 prints them, which are the caller's.
+use super::records::zero_state;
 use basicop::Q13;
 use gain::GainDecoder;
-use state::State;
 use std::io;
 
 const LOG_TABLE: [i16; 33] = [
@@ -84,7 +84,7 @@ pub fn index_frame(rt: &impl Print) -> io::Result<()> {
     let mut samples = [0; 160];
     let answer = mr74::frame_indexed(
         &sheet,
-        State::default(),
+        zero_state(),
         &LOG_TABLE,
         &POW_TABLE,
         GainDecoder::default(),
@@ -106,7 +106,7 @@ pub fn frame_of_gains(rt: &impl Print) -> io::Result<()> {
     sheet[102] = 2000;
     sheet[142] = 2000;
     let mut samples = [0; 160];
-    let answer = mr74::frame(&sheet, State::default(), &mut samples);
+    let answer = mr74::frame(&sheet, zero_state(), &mut samples);
     let number = outcome::number(answer.outcome);
     println!(rt;
         "frame of its gains: refusal {number}, samples 40 and 42 are {} and {}",

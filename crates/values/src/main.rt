@@ -1,8 +1,10 @@
-// Runs document 01's values to hold through the code, the starred ones among them, gains from their index and an index frame, means of peaks and shift
-// reports, and prints each with its input.
+// Runs document 01's values to hold through the code, the starred ones among them, gains from their index and an index frame, erased frames, records of
+// both versions, means of peaks and shift reports, and prints each with its input.
 #![tactic(auto)]
 
+mod erased;
 mod gains;
+mod records;
 
 use pitch::{Fraction, PitchLag};
 use std::fmt::Display;
@@ -145,7 +147,7 @@ fn means(rt: &impl Print) -> io::Result<()> {
 // document 01's listing: a zero record, a zero sheet, one with only LSF 9 = 16385, and a byte
 fn listing() -> [u8; 1131] {
     let mut input = [0u8; 1131];
-    input[394..402].copy_from_slice(&[0x4D, 0x37, 0x01, 0x00, 0x8A, 0x01, 0xC5, 0x00]);
+    input[..402].copy_from_slice(&records::zero_record());
     input[784..786].copy_from_slice(&16385i16.to_le_bytes());
     input
 }
@@ -178,11 +180,16 @@ fn main(rt: HostRuntime) -> io::Result<()> {
     gains::decoded_gains(&rt)?;
     gains::index_frame(&rt)?;
     gains::frame_of_gains(&rt)?;
+    erased::frames(&rt)?;
+    erased::stages(&rt)?;
+    records::read_versions(&rt)?;
     peaks(&rt)?;
     peak_below_zero(&rt)?;
     marks(&rt)?;
     means(&rt)?;
     let input = listing();
     reports(&rt, "report of", &input, &[0, 402, 766, 1131])?;
-    reports(&rt, "LSFs apart: report of", &spaced(input), &[766, 1131])
+    reports(&rt, "LSFs apart: report of", &spaced(input), &[766, 1131])?;
+    let short = records::short_record();
+    reports(&rt, "trailer of version 2: report of", &short, &[402])
 }

@@ -1,8 +1,9 @@
 //! The calls that are lent tables: the frame call of an index sheet, and the call of a gain index.
 
-use crate::{Lent, UNFIT, bytes, ffi, put, whole_words};
+use crate::{Lent, UNFIT, bytes, code, ffi, put, whole_words};
 use reference::{
-    INDEX_SHEET, SUBFRAME, frame,
+    INDEX_SHEET, STATE, SUBFRAME,
+    frame::{self, EnergyAnswer},
     gain::{self, ENERGIES},
 };
 
@@ -36,14 +37,15 @@ fn lent([logs, pows]: &[Vec<i16>; 2]) -> gain::Tables<'_> {
     gain::Tables { logs, pows }
 }
 
-/// What is lent to the frame call of an index sheet and changed, and what it returns.
+/// What is lent to the frame call of an index sheet or of an erased sheet and changed, and what it
+/// returns.
 #[derive(Debug, Clone, PartialEq, Eq)]
-pub struct Indexed {
+pub struct WithEnergies {
     pub frame: Lent,
     pub energies: Vec<u8>,
 }
 
-impl Indexed {
+impl WithEnergies {
     /// Every buffer but state and energies is filled with a mark.
     pub fn new(state: &[i16], energies: &[i16], mark: u8) -> Self {
         Self {
@@ -52,7 +54,7 @@ impl Indexed {
         }
     }
 
-    /// The call of the static library.
+    /// The static library's call of an index sheet.
     pub fn ours(&mut self, sheet: &[u8], tables: &Tables) {
         let frame = &mut self.frame;
         frame.code = unsafe {
@@ -79,14 +81,23 @@ impl Indexed {
 
     /// The reference's answer to the same bytes.
     pub fn reference(&mut self, sheet: &[u8], tables: &Tables) {
+        let tables = tables.numbers();
+        self.answer(|state, energies, samples| {
+            frame::frame_indexed(&whole_words(sheet), state, lent(&tables), energies, samples)
+        });
+    }
+
+    /// What an answer leaves; it is asked for where the energies have their length, too.
+    pub(crate) fn answer(
+        &mut self,
+        answer: impl FnOnce(&[i16; STATE], &[i16; ENERGIES], &mut [i16]) -> EnergyAnswer,
+    ) {
         let Ok(mut energies) = whole_words(&self.energies).try_into() else {
             self.frame.code = UNFIT;
             return;
         };
-        let tables = tables.numbers();
         self.frame.answer(|state, samples| {
-            let sheet = whole_words(sheet);
-            let answer = frame::frame_indexed(&sheet, state, lent(&tables), &energies, samples);
+            let answer = answer(state, &energies, samples);
             energies = answer.energies;
             answer.frame
         });
@@ -141,7 +152,7 @@ impl Decoded {
             return;
         };
         let answer = gain::decode(index, &innovation, lent(&tables.numbers()), &energies);
-        self.code = answer.refusal as u32 + 256 * answer.place as u32;
+        self.code = code((answer.refusal, answer.place));
         put(&mut self.energies, &answer.energies);
         put(&mut self.gains, &[answer.pitch, answer.code]);
     }

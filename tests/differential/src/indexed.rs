@@ -4,8 +4,8 @@ use crate::{Counts, KINDS, agrees, all, drawn, opening};
 use differential::{
     OUT_BYTES, PLACES_BYTES, ROWS_BYTES, STATE_BYTES, bytes,
     gains::{
-        Decoded, ENERGIES_BYTES, GAINS_BYTES, INDEX_SHEET_BYTES, INNOVATION_BYTES, Indexed,
-        TABLE_BYTES, Tables,
+        Decoded, ENERGIES_BYTES, GAINS_BYTES, INDEX_SHEET_BYTES, INNOVATION_BYTES, TABLE_BYTES,
+        Tables, WithEnergies,
     },
     words,
 };
@@ -21,7 +21,7 @@ use reference::{
 };
 
 /// Both calls on the same bytes; what ours left goes on.
-fn same(lent: &mut Indexed, sheet: &[u8], tables: &Tables) -> bool {
+pub fn same(lent: &mut WithEnergies, sheet: &[u8], tables: &Tables) -> bool {
     let mut reference = lent.clone();
     lent.ours(sheet, tables);
     reference.reference(sheet, tables);
@@ -35,13 +35,13 @@ fn decodes(lent: &mut Decoded, index: i16, innovation: &[u8], tables: &Tables) -
     *lent == reference
 }
 
-fn whole([logs, pows]: &Pair) -> Tables {
+pub fn whole([logs, pows]: &Pair) -> Tables {
     Tables::new(logs, pows)
 }
 
 /// The tables of a call: the standard's or drawn ones; in one call of thirty one of them, or both, is
 /// no table.
-fn lent_tables(random: &mut Random) -> Tables {
+pub fn lent_tables(random: &mut Random) -> Tables {
     let pair = draw::gains::tables(random);
     if !random.once_in(30) {
         return whole(&pair);
@@ -62,11 +62,11 @@ fn lent_tables(random: &mut Random) -> Tables {
 }
 
 /// The index sheet of a sheet, with these indices for its gains.
-fn index_sheet(sheet: &[i16], indices: [i16; 4]) -> Vec<i16> {
+pub fn index_sheet(sheet: &[i16], indices: [i16; 4]) -> Vec<i16> {
     [&sheet[..at::GAINS], &indices, &sheet[at::INNOVATION..]].concat()
 }
 
-fn indices(random: &mut Random) -> [i16; 4] {
+pub fn indices(random: &mut Random) -> [i16; 4] {
     let ends = random.once_in(4);
     std::array::from_fn(|_| {
         if ends {
@@ -78,7 +78,7 @@ fn indices(random: &mut Random) -> [i16; 4] {
 }
 
 /// Puts a number outside its range into an index sheet, or an LSF too close to the one before.
-fn damage(random: &mut Random, sheet: &mut [i16]) {
+pub fn damage(random: &mut Random, sheet: &mut [i16]) {
     if random.once_in(4) {
         let place = random.range(0, 9) as usize;
         return draw::put_above(sheet, place, random.of(&[204, 203, 1, 0, -1]));
@@ -94,12 +94,12 @@ fn damage(random: &mut Random, sheet: &mut [i16]) {
 }
 
 /// A frame that differs: what it was lent, as numbers.
-fn differs(
+pub fn differs(
     counts: &Counts,
     tally: &mut Tally,
     name: &str,
     sheet: &[i16],
-    before: &Indexed,
+    before: &WithEnergies,
     tables: &Tables,
 ) {
     counts.differs(tally, name, sheet, &before.frame.state);
@@ -117,7 +117,7 @@ pub fn chained(tally: &mut Tally, random: &mut Random, kind: usize, frames: u64)
     let name = format!("index sheets, {name}");
     let start = |random: &mut Random| {
         let state = opening(random, kind);
-        Indexed::new(&state, &draw::gains::energies(random), 0)
+        WithEnergies::new(&state, &draw::gains::energies(random), 0)
     };
     let mut lent = start(random);
     let mut counts = Counts::default();
@@ -148,7 +148,7 @@ pub fn by_source(tally: &mut Tally, random: &mut Random, frames: u64) {
     let start = |random: &mut Random| {
         let state = opening(random, 0);
         (
-            Indexed::new(&state, &OPENING, 0),
+            WithEnergies::new(&state, &OPENING, 0),
             Source::new(&part(&state, 0)),
         )
     };
@@ -205,12 +205,12 @@ pub fn gains(tally: &mut Tally, random: &mut Random, calls: u64) {
 }
 
 /// Lengths about one.
-fn near(length: usize) -> [usize; 3] {
+pub fn near(length: usize) -> [usize; 3] {
     [length - 1, length, length + 1]
 }
 
 /// Every choice of one from each of these.
-fn choices<const N: usize>(of: [&[usize]; N]) -> Vec<[usize; N]> {
+pub fn choices<const N: usize>(of: [&[usize]; N]) -> Vec<[usize; N]> {
     let mut all = vec![[0; N]];
     for (place, values) in of.into_iter().enumerate() {
         let with = |choice: [usize; N]| {
@@ -227,7 +227,7 @@ fn choices<const N: usize>(of: [&[usize]; N]) -> Vec<[usize; N]> {
 
 /// The index call with buffers of these lengths: sheet, output, state, rows, places, energies and both
 /// tables.
-fn of_lengths(opening: &Indexed, sheet: &[u8], tables: &Tables, lengths: [usize; 8]) -> bool {
+fn of_lengths(opening: &WithEnergies, sheet: &[u8], tables: &Tables, lengths: [usize; 8]) -> bool {
     let [numbers, out, state, rows, places, energies, logs, pows] = lengths;
     let mut lent = opening.clone();
     let mut tables = tables.clone();
@@ -265,7 +265,7 @@ fn frame_lengths(tally: &mut Tally, random: &mut Random) {
     let mut sheet = bytes(&draw::gains::index_sheet(random, lsf, Loudness::Speech));
     sheet.extend((0..400).map(|_| random.bits() as u8));
     let tables = whole(&tables::standard());
-    let opening = Indexed::new(&draw::state(random, 3000), &OPENING, 0x5A);
+    let opening = WithEnergies::new(&draw::state(random, 3000), &OPENING, 0x5A);
     let own = LENGTHS.map(|(_, length, _)| length);
     for (place, (name, _, most)) in LENGTHS.into_iter().enumerate() {
         let name = format!("index call: {name} of each length");
@@ -341,7 +341,7 @@ fn limits(tally: &mut Tally, random: &mut Random) {
     let pair = tables::standard();
     let call = |sheet: &[i16], state: &[i16], tables: &Tables| {
         same(
-            &mut Indexed::new(state, &energies, 0x5A),
+            &mut WithEnergies::new(state, &energies, 0x5A),
             &bytes(sheet),
             tables,
         )

@@ -1,5 +1,6 @@
 //! The calls of `crates/capi/c/mr74.h`, and the reference's answers to the same bytes.
 
+pub mod erased;
 pub mod gains;
 
 use reference::{FRAME, NOWHERE, ROW, SHEET, STATE, SUBFRAMES, frame, record};
@@ -44,6 +45,20 @@ mod ffi {
             energies: *mut u8,
             energies_bytes: usize,
         ) -> u32;
+        pub fn mr74_frame_erased(
+            sheet: *const u8,
+            sheet_bytes: usize,
+            state: *mut u8,
+            state_bytes: usize,
+            out: *mut u8,
+            out_bytes: usize,
+            rows: *mut u8,
+            rows_bytes: usize,
+            places: *mut u8,
+            places_bytes: usize,
+            energies: *mut u8,
+            energies_bytes: usize,
+        ) -> u32;
         pub fn mr74_gain_decode(
             index: i16,
             innovation: *const u8,
@@ -71,6 +86,11 @@ mod ffi {
             record_bytes: usize,
         ) -> u32;
     }
+}
+
+/// Number and place in one, 0 where a call was accepted.
+fn code((number, place): frame::Refusal) -> u32 {
+    number as u32 + 256 * place as u32
 }
 
 /// What is lent to a frame call, and what it returns.
@@ -135,7 +155,7 @@ impl Lent {
         };
         let mut samples = whole_words(&self.out);
         let answer = answer(&state, &mut samples);
-        self.code = answer.refusal as u32 + 256 * answer.place as u32;
+        self.code = code((answer.refusal, answer.place));
         put(&mut self.state, &answer.state);
         put(&mut self.rows, answer.rows.as_flattened());
         for (byte, place) in self.places.iter_mut().zip(answer.places) {
@@ -170,7 +190,7 @@ pub fn reference_read(input: &[u8], room: usize) -> Reading {
     }
     let answer = record::read(input);
     (
-        answer.refusal as u32,
+        code((answer.refusal, answer.place)),
         bytes(&answer.state),
         answer.note.len(),
     )
@@ -191,8 +211,8 @@ pub fn reference_write(state: &[u8], room: usize) -> Writing {
     if state.len() != STATE_BYTES {
         return (UNFIT, lent);
     }
-    let numbers = words(state).try_into().expect("a state has 197 numbers");
-    let code = record::write(&numbers, &mut lent) as u32;
+    let numbers = words(state).try_into().expect("a state has 213 numbers");
+    let code = code(record::write(&numbers, &mut lent));
     (code, lent)
 }
 

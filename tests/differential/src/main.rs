@@ -1,15 +1,17 @@
 //! `differential [FRAMES [SEED]]`: the static library against the reference, on FRAMES chained frames (200000) from a seed
-//! and a sixth as many whose sheets the source draws, on half as many of index sheets and as many gains of an index, and on
-//! sheets, buffers and records of every length about each boundary. Every byte that a call leaves is compared.
+//! and a sixth as many whose sheets the source draws, on half as many of index sheets and as many gains of an index, on half
+//! as many of all three kinds of sheets in turns, erased ones among them, and on sheets, buffers and records of every length
+//! about each boundary. Every byte that a call leaves is compared.
 
 mod indexed;
+mod losses;
+mod records;
 
 use differential::{
-    Lent, OUT_BYTES, PLACES_BYTES, ROWS_BYTES, SHEET_BYTES, STATE_BYTES, bytes, read,
-    reference_read, reference_write, words, write,
+    Lent, OUT_BYTES, PLACES_BYTES, ROWS_BYTES, SHEET_BYTES, STATE_BYTES, bytes, words,
 };
 use reference::{
-    LSFS, SHEET, STATE, at,
+    LSFS, SHEET, ZEROS, at,
     draw::{self, Loudness},
     examples,
     indexed::source::{self, Source},
@@ -93,7 +95,7 @@ fn extreme(random: &mut Random) -> Vec<i16> {
 
 fn opening(random: &mut Random, kind: usize) -> Vec<i16> {
     match kind {
-        0 if random.once_in(2) => vec![0; STATE],
+        0 if random.once_in(2) => ZEROS.to_vec(),
         0 | 1 => draw::state(random, 3000),
         4 => draw::extreme_state(random),
         _ => {
@@ -358,8 +360,8 @@ fn limits(tally: &mut Tally, random: &mut Random) {
             let mut record = bytes(&state);
             record.extend(record::TRAILER);
             same(&mut Lent::new(&state, 0x5A), &bytes(&sheet))
-                && reads(&record, STATE_BYTES)
-                && writes(&bytes(&state), record::RECORD)
+                && records::reads(&record, STATE_BYTES)
+                && records::writes(&bytes(&state), record::RECORD)
         },
     );
 }
@@ -367,8 +369,8 @@ fn limits(tally: &mut Tally, random: &mut Random) {
 /// The places of the sheets of `examples/call.bin`, by both: two subframes are retried, and sheet 9 is refused.
 fn places(tally: &mut Tally) {
     let call = examples::input("call").expect("the run is listed");
-    let (record, sheets) = call.split_at(record::RECORD);
-    let mut ours = Lent::new(&words(&record[..STATE_BYTES]), 0x5A);
+    let (record, sheets) = call.split_at(record::first::RECORD);
+    let mut ours = Lent::new(&record::read(record).state, 0x5A);
     let mut reference = ours.clone();
     let name = "places of the sheets of examples/call.bin";
     all(tally, name, 1..=13, |&number| {
@@ -386,76 +388,6 @@ fn places(tally: &mut Tally) {
     });
 }
 
-fn reads(record: &[u8], room: usize) -> bool {
-    read(record, room) == reference_read(record, room)
-}
-
-fn writes(state: &[u8], room: usize) -> bool {
-    write(state, room) == reference_write(state, room)
-}
-
-fn records(tally: &mut Tally, random: &mut Random) {
-    let mut long: Vec<u8> = (0..600).map(|_| random.bits() as u8).collect();
-    long.extend(bytes(&draw::state(random, 32767)));
-    long.extend(record::TRAILER);
-    let end = long.len();
-    all(
-        tally,
-        "records behind notes of each length",
-        0..=end,
-        |&from| reads(&long[from..], STATE_BYTES),
-    );
-    all(tally, "records cut at each length", 0..=end, |&to| {
-        reads(&long[..to], STATE_BYTES)
-    });
-    all(
-        tally,
-        "reads into states of each length",
-        0..=800,
-        |&room| reads(&long, room),
-    );
-    let cases = (0..8).flat_map(|place| (0..=255u8).map(move |byte| (place, byte)));
-    all(
-        tally,
-        "each value of each byte of a trailer",
-        cases,
-        |&(place, byte)| {
-            let mut record = long.clone();
-            record[end - 8 + place] = byte;
-            reads(&record, STATE_BYTES)
-        },
-    );
-    all(tally, "records with some bytes changed", 0..20_000, |_| {
-        let mut record = long[600 - random.range(0, 600) as usize..].to_vec();
-        for _ in 0..random.range(1, 4) {
-            let last = record.len() as i64 - 1;
-            let from = if random.once_in(2) { last - 12 } else { 0 };
-            record[random.range(from, last) as usize] = random.bits() as u8;
-        }
-        reads(&record, STATE_BYTES)
-    });
-    let body = &long[600..600 + STATE_BYTES];
-    all(
-        tally,
-        "writes into records of each length",
-        0..=800,
-        |&room| writes(body, room),
-    );
-    all(
-        tally,
-        "writes of states of each length",
-        0..=end,
-        |&length| writes(&long[..length], record::RECORD),
-    );
-    all(tally, "states written and read back", 0..5_000, |_| {
-        let limit = draw::level(random);
-        let state = bytes(&draw::state(random, limit));
-        let (code, written) = write(&state, record::RECORD);
-        let back = read(&written, STATE_BYTES);
-        code == 0 && writes(&state, record::RECORD) && back == (0, state, 0)
-    });
-}
-
 fn main() -> ExitCode {
     let mut arguments = env::args().skip(1).map(|word| word.parse::<u64>());
     let frames = arguments.next().unwrap_or(Ok(200_000));
@@ -469,7 +401,7 @@ fn main() -> ExitCode {
     places(&mut tally);
     lengths(&mut tally, &mut random);
     limits(&mut tally, &mut random);
-    records(&mut tally, &mut random);
+    records::run(&mut tally, &mut random);
     let share = frames.div_ceil(KINDS.len() as u64);
     for kind in 0..KINDS.len() {
         chained(&mut tally, &mut random, kind, share);
@@ -482,6 +414,12 @@ fn main() -> ExitCode {
     }
     indexed::by_source(&mut tally, &mut random, share.div_ceil(2));
     indexed::gains(&mut tally, &mut random, frames);
+    losses::boundaries(&mut tally, &mut random);
+    records::both_versions(&mut tally, &mut random);
+    for kind in 0..KINDS.len() {
+        losses::chained(&mut tally, &mut random, kind, share.div_ceil(2));
+    }
+    losses::by_source(&mut tally, &mut random, share.div_ceil(2));
     if tally.end() {
         ExitCode::SUCCESS
     } else {

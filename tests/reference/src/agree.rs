@@ -2,10 +2,13 @@
 //! argument of the stages that have few enough.
 
 use crate::{
-    FRAME, NOWHERE, STATE, draw, frame,
+    FRAME, GAIN_FIELDS, NOWHERE, ZEROS, at,
+    draw::{self, erased::Chain},
+    files::erased::FRAME_MIXED,
+    frame,
     gain::{self, OPENING},
-    model::{self, Trace, gains},
-    mr74::stages,
+    model::{self, Trace, concealment::Concealment, gains},
+    mr74::{erased, stages},
     part, program,
     random::Random,
     tally::Tally,
@@ -16,13 +19,13 @@ const CHAIN: u64 = 100;
 
 fn frames(tally: &mut Tally, count: u64, seed: u64) {
     let mut random = Random::new(seed);
-    let mut state = [0; STATE];
+    let mut state = ZEROS;
     let mut retried = 0;
     for number in 0..count {
         if number % CHAIN == CHAIN - 1 {
             let limit = draw::level(&mut random);
             let drawn = draw::state(&mut random, limit);
-            state = drawn.try_into().expect("a state has 197 numbers");
+            state = drawn.try_into().expect("a state has 213 numbers");
         }
         let sheet = program::sheet(&mut random);
         let mut wanted = vec![0; FRAME];
@@ -31,7 +34,7 @@ fn frames(tally: &mut Tally, count: u64, seed: u64) {
         wanted.extend(answer.places);
         wanted.extend(answer.rows.as_flattened());
         wanted.extend(answer.state);
-        if model::frame(&mut Trace::default(), &sheet, &state) != wanted {
+        if model::frame::frame(&mut Trace::default(), &sheet, &state) != wanted {
             tally.line(false, &format!("frame {number} from seed {seed}"));
             println!("sheet {sheet:?}\nstate {state:?}");
             return;
@@ -50,13 +53,13 @@ fn frames(tally: &mut Tally, count: u64, seed: u64) {
 /// Chained index frames, each with tables of its own; and as many calls of an index.
 fn index_calls(tally: &mut Tally, count: u64, seed: u64) {
     let mut random = Random::new(seed);
-    let (mut state, mut energies) = ([0; STATE], OPENING);
+    let (mut state, mut energies) = (ZEROS, OPENING);
     let mut trace = Trace::default();
     for number in 0..count {
         if number % CHAIN == CHAIN - 1 {
             let limit = draw::level(&mut random);
             let drawn = draw::state(&mut random, limit);
-            state = drawn.try_into().expect("a state has 197 numbers");
+            state = drawn.try_into().expect("a state has 213 numbers");
             energies = draw::gains::energies(&mut random);
         }
         let tables = draw::gains::tables(&mut random);
@@ -87,6 +90,51 @@ fn index_calls(tally: &mut Tally, count: u64, seed: u64) {
     }
     let text = format!("{count} index frames and {count} gains from seed {seed}");
     tally.line(true, &text);
+}
+
+/// Chained calls of all three kinds of sheets.
+fn mixed(tally: &mut Tally, count: u64, seed: u64) {
+    let mut random = Random::new(seed);
+    let mut chain = Chain::any(&mut random);
+    let mut seen = [0; 3];
+    let mut held = 0;
+    for number in 0..count {
+        if number % CHAIN == CHAIN - 1 {
+            chain = Chain::any(&mut random);
+        }
+        let record = chain.any_step(&mut random);
+        let mut trace = Trace::default();
+        if (FRAME_MIXED.model)(&mut trace, &record) != (FRAME_MIXED.answer)(&record) {
+            tally.line(
+                false,
+                &format!("call {number} of mixed kinds from seed {seed}"),
+            );
+            println!("{record:?}");
+            return;
+        }
+        seen[record[0] as usize] += 1;
+        held += u64::from(HELD.iter().any(|kind| trace.seen.contains(&(kind, 0))));
+    }
+    let [frames, indexed, erased] = seen;
+    let kinds = format!("{frames} frames, {indexed} index frames, {erased} erased frames");
+    let text = format!("{kinds} in mixed chains from seed {seed}, {held} of them held");
+    tally.line(true, &text);
+}
+
+const HELD: [&str; 3] = [
+    "both gains held",
+    "pitch gain held alone",
+    "code gain held alone",
+];
+
+/// A gain of every stage: fives and past gains all of it.
+fn conceals(trace: &mut Trace, stage: i16, gain: i16) -> bool {
+    let fields = [gain; GAIN_FIELDS];
+    let mut state = ZEROS;
+    state[at::GAIN_FIELDS..at::ERASED].copy_from_slice(&fields);
+    let mut concealment = Concealment::of(&state);
+    let gains = concealment.conceal(trace, stage);
+    (gains, concealment.gain_fields()) == erased::conceal(stage, &fields)
 }
 
 /// Every argument is answered alike.
@@ -132,7 +180,13 @@ pub fn run(count: u64, seed: u64) -> bool {
         i32::MIN..=i32::MAX,
         |value| model::inverse_sqrt(i64::from(value)) == i64::from(stages::inverse_sqrt(value)),
     );
+    let gains = (0..7).flat_map(|stage| (0..=i16::MAX).map(move |gain| (stage, gain)));
+    let name = "every gain of every stage";
+    every(&mut tally, name, gains, |(stage, gain)| {
+        conceals(&mut trace, stage, gain)
+    });
     frames(&mut tally, count, seed);
+    mixed(&mut tally, count, seed);
     index_calls(&mut tally, count, seed);
     tally.end()
 }

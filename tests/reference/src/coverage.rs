@@ -1,11 +1,15 @@
 //! What the recorded answers cover, counted from the files themselves.
 
 use crate::{
-    files::{FILES, File, Kind},
+    files::{FILES, File, Kind, erased::FRAME_MIXED},
     model::Trace,
     tally::Tally,
 };
-use std::{collections::BTreeMap, fs, path::Path};
+use std::{
+    collections::{BTreeMap, BTreeSet},
+    fs,
+    path::Path,
+};
 
 pub fn run(folder: &Path) -> bool {
     let mut tally = Tally::default();
@@ -58,12 +62,7 @@ fn count(file: &File, records: &[Vec<i16>], tally: &mut Tally) {
         }
     }
     if name.starts_with("frame_") {
-        let chained = records.windows(2).filter(|pair| file.is_chained(pair));
-        let count = chained.count();
-        tally.line(
-            count > 0,
-            &format!("{name}: chained to the record before: {count}"),
-        );
+        chains(file, records, tally);
     }
     for &fault in file.faults {
         let gives_away = |record: &&Vec<i16>| {
@@ -73,5 +72,22 @@ fn count(file: &File, records: &[Vec<i16>], tally: &mut Tally) {
         let count = records.iter().filter(gives_away).count();
         let text = format!("{name}: fault \"{}\" given away by {count}", fault.name());
         tally.line(count > 0, &text);
+    }
+}
+
+/// The records that go on from the one before, and of mixed calls which kind comes behind which.
+fn chains(file: &File, records: &[Vec<i16>], tally: &mut Tally) {
+    let name = file.name;
+    let chained = records.windows(2).filter(|pair| file.is_chained(pair));
+    let count = chained.clone().count();
+    tally.line(
+        count > 0,
+        &format!("{name}: chained to the record before: {count}"),
+    );
+    if name == FRAME_MIXED.name {
+        let kinds: BTreeSet<_> = chained.map(|pair| (pair[0][0], pair[1][0])).collect();
+        let count = kinds.len();
+        let text = format!("{name}: a kind of call behind each kind: {count} of 9");
+        tally.line(count == 9, &text);
     }
 }

@@ -1,16 +1,19 @@
 //! The inputs of the recorded files, drawn from their seeds. Where a kind is rare, candidates are
 //! drawn and kept only if they show what the kept ones show too seldom.
 
+pub mod erased;
 pub mod gains;
+pub mod records;
 
 use crate::{
-    FRAME, LSF_GAP, LSFS, MEMORY, PAST, ROW, SHEET, STATE, SUBFRAME, SUBFRAMES, at,
-    files::{BROKEN, BYTE_AREA, File, Kind, LAGS, PREVIOUS, SHEET_AREA, from_long},
+    ERASED_SHEET, FRAME, INDEX_SHEET, LSF_GAP, LSFS, MEMORY, PAST, ROW, SHEET, STATE, SUBFRAME,
+    SUBFRAMES, ZEROS, at,
+    files::{BROKEN, File, Kind, LAGS, PREVIOUS, SHEET_AREA, from_long},
     model::{Fault, Trace},
     mr74::stages::{self, Decoded},
     part,
     random::Random,
-    record,
+    record::first,
 };
 use std::collections::BTreeMap;
 
@@ -19,7 +22,17 @@ type Records = Vec<Vec<i16>>;
 /// The search takes no account of these, so that the records that it keeps stay the same;
 /// `Chosen::complete` puts behind them what they lack.
 const UNSOUGHT_KIND: &str = "place";
-const UNSOUGHT_FAULTS: [Fault; 2] = [Fault::PlaceByLastSteps, Fault::PlaceOnFeedback];
+const UNSOUGHT_FAULTS: [Fault; 9] = [
+    Fault::PlaceByLastSteps,
+    Fault::PlaceOnFeedback,
+    Fault::PastNotHeld,
+    Fault::FiveNotHeld,
+    Fault::CodeHeld,
+    Fault::NewestLeaves,
+    Fault::GoodAlwaysHeld,
+    Fault::LastGoodHeld,
+    Fault::LastLagKept,
+];
 
 /// Records of a file, and how often they show each kind and give each fault away.
 struct Chosen<'a> {
@@ -736,9 +749,14 @@ pub fn sheet(random: &mut Random, lsf: [i16; LSFS], loudness: Loudness) -> Vec<i
     sheet
 }
 
-/// An accepted state, its samples within a limit.
+/// A state of these fields of a version 1 record.
+fn opened(fields: &[i16; first::FIELDS]) -> Vec<i16> {
+    [fields, &ZEROS[first::FIELDS..]].concat()
+}
+
+/// An accepted state, its samples within a limit; nothing erased before it, and no gain remembered.
 pub fn state(random: &mut Random, limit: i16) -> Vec<i16> {
-    let mut state: [i16; STATE] = if limit == 32767 {
+    let mut state: [i16; first::FIELDS] = if limit == 32767 {
         signal(random)
     } else {
         within(random, limit)
@@ -751,20 +769,20 @@ pub fn state(random: &mut Random, limit: i16) -> Vec<i16> {
         state[at::SHARPENING] = random.word(0, 13017);
         state[at::GAIN] = random.word(0, 32767);
     }
-    state.to_vec()
+    opened(&state)
 }
 
 /// The extreme numbers of a state: one of them throughout, or edges. Previous LSPs of any kind.
 pub fn extreme_state(random: &mut Random) -> Vec<i16> {
     let same = random.of(&[-32768, 32767]);
     let all = random.once_in(2);
-    let mut state: [i16; STATE] = numbers(|| if all { same } else { random.edge() });
+    let mut state: [i16; first::FIELDS] = numbers(|| if all { same } else { random.edge() });
     if random.once_in(2) {
         state[..LSFS].copy_from_slice(&spectrum(random));
     }
     state[at::SHARPENING] = random.of(&[0, 13017]);
     state[at::GAIN] = random.of(&[0, 32767]);
-    state.to_vec()
+    opened(&state)
 }
 
 /// What the source's chain gives, with no check before it.
@@ -917,7 +935,9 @@ fn frames(file: &File, random: &mut Random, size: usize, enough: usize, way: Fra
         (Frames::Extreme, false) => closest(random),
         (Frames::Broken, _) => broken(random),
     };
-    let zero = vec![0; STATE];
+    // What a good frame hands on and does not use, from numbers of their own: no mark is set.
+    let mut fields = Random::new(1000 + file.seed);
+    let zero = ZEROS.to_vec();
     let mut silent = vec![0; SHEET];
     silent[..LSFS].copy_from_slice(&lsf(random, true));
     // Silence from the all-zero state, then speech.
@@ -941,16 +961,18 @@ fn frames(file: &File, random: &mut Random, size: usize, enough: usize, way: Fra
     quiet[at::GAIN] = 4096;
     chosen.put([silent, quiet].concat());
     // Any accepted sheet and state.
-    let candidate = |random: &mut Random, loudness: Loudness| {
+    let mut candidate = |random: &mut Random, loudness: Loudness| {
         let ordinary = random.once_in(2);
         let lsf = lsf(random, ordinary);
         let limit = level(random);
         let sheet = sheet(random, lsf, loudness);
-        let state = if way == Frames::Extreme && random.once_in(2) {
+        let mut state = if way == Frames::Extreme && random.once_in(2) {
             extreme_state(random)
         } else {
             state(random, limit)
         };
+        erased::put_fields(&mut state, &mut fields);
+        state[at::ERASED] = 0;
         [sheet, state].concat()
     };
     for _ in 0..size {
@@ -993,7 +1015,7 @@ pub fn frame_broken(file: &File, random: &mut Random) -> Records {
 
 /// The calls of a kind of sheet that are refused: the order of their refusals, the numbers of their
 /// sheet, and where it begins in a record of theirs. The counts of the sheet's numbers and of the
-/// output's samples stand first; behind the sheet stand the state and the tables, where there are any.
+/// output's samples stand first; behind the sheet stand the state, and the tables where there are any.
 pub struct Calls {
     pub order: &'static [i16],
     pub numbers: usize,
@@ -1001,7 +1023,7 @@ pub struct Calls {
 }
 
 pub const FRAME_CALLS: Calls = Calls {
-    order: &[1, 5, 2, 6, 3, 4, 16, 17],
+    order: &[1, 5, 2, 6, 3, 4, 16, 17, 18, 19],
     numbers: SHEET,
     sheet: 2,
 };
@@ -1033,8 +1055,11 @@ impl Calls {
             8 => sheet[at::GAINS..at::INDEXED_INNOVATION]
                 .iter()
                 .any(|index| !(0..=127).contains(index)),
+            9 => !(0..=6).contains(&sheet[at::STAGE]),
             16 => !(0..=13017).contains(&state[at::SHARPENING]),
             17 => state[at::GAIN] < 0,
+            18 => erased::bad_field(state).is_some(),
+            19 => !(19..=144).contains(&state[at::LAST_LAG]),
             _ => unreachable!("no order has such a refusal"),
         }
     }
@@ -1046,7 +1071,10 @@ impl Calls {
         let whole = self.numbers as i16;
         match row {
             1 => {
-                record[0] = pick(&[whole - 1, whole + 1, 0, 1, whole + 2, SHEET as i16]);
+                let mut lengths = vec![whole - 1, whole + 1, 0, 1, whole + 2];
+                let kinds = [SHEET, INDEX_SHEET, ERASED_SHEET].map(|count| count as i16);
+                lengths.extend(kinds.iter().filter(|&&count| count != whole));
+                record[0] = pick(&lengths);
                 // Nothing lies after the sheet's end.
                 let end = sheet + record[0] as usize;
                 record[end..state].fill(0);
@@ -1070,8 +1098,11 @@ impl Calls {
                 let place = sheet + at::GAINS + way % SUBFRAMES;
                 record[place] = pick(&[128, -1, 32767, -32768, 129]);
             }
+            9 => record[sheet + at::STAGE] = pick(&[7, -1, 32767, -32768, 8]),
             16 => record[state + at::SHARPENING] = pick(&[13018, -1, 32767, -32768]),
             17 => record[state + at::GAIN] = pick(&[-1, -32768]),
+            18 => erased::spoil_field(&mut record[state..], way),
+            19 => record[state + at::LAST_LAG] = pick(&[145, 18, 0, -1, 32767, -32768]),
             _ => unreachable!("no order has such a refusal"),
         }
     }
@@ -1112,7 +1143,7 @@ pub fn refused(_: &File, random: &mut Random) -> Records {
     };
     for spoils in FRAME_CALLS.spoiled(
         &[
-            (1, 5),
+            (1, 7),
             (5, 5),
             (2, 10),
             (6, 20),
@@ -1120,12 +1151,20 @@ pub fn refused(_: &File, random: &mut Random) -> Records {
             (4, 8),
             (16, 4),
             (17, 2),
+            (18, erased::FIELD_WAYS),
+            (19, 6),
         ],
-        &[(2, [3, 7]), (6, [2, 8]), (3, [1, 3]), (4, [2, 5])],
+        &[
+            (2, [3, 7]),
+            (6, [2, 8]),
+            (3, [1, 3]),
+            (4, [2, 5]),
+            (18, [4, 12]),
+        ],
     ) {
         let lsf = kept(random);
         let sheet = sheet(random, lsf, Loudness::Speech);
-        let mut record = whole(&sheet, &state(random, 3000));
+        let mut record = whole(&sheet, &erased::state(random, 3000));
         for (row, way) in spoils {
             FRAME_CALLS.spoil(&mut record, row, way);
         }
@@ -1137,116 +1176,5 @@ pub fn refused(_: &File, random: &mut Random) -> Records {
         let (sheet, state) = frame.split_at(SHEET);
         whole(sheet, state)
     }));
-    records
-}
-
-pub fn record_read(_: &File, random: &mut Random) -> Records {
-    let mut records = Records::new();
-    let mut put = |bytes: &[u8]| {
-        let mut words = vec![bytes.len() as i16];
-        let mut area = bytes.to_vec();
-        area.resize(BYTE_AREA, 0);
-        let (pairs, _) = area.as_chunks();
-        words.extend(pairs.iter().map(|&pair| i16::from_le_bytes(pair)));
-        records.push(words);
-    };
-    let written = |state: &[i16]| {
-        let mut bytes: Vec<u8> = state.iter().flat_map(|field| field.to_le_bytes()).collect();
-        bytes.extend(record::TRAILER);
-        bytes
-    };
-    let zero = [0; STATE];
-    put(&written(&zero));
-    for length in [0, 1, 7] {
-        put(&vec![0x4D; length]);
-    }
-    // Notes, one of which looks like a trailer.
-    for length in [1, 2, 7, 8, 18] {
-        let mut bytes: Vec<u8> = (0..length).map(|_| random.bits() as u8).collect();
-        bytes.extend(written(&state(random, 3000)));
-        put(&bytes);
-    }
-    put(&[&record::TRAILER[..], &written(&state(random, 32767))].concat());
-    // Every byte of the trailer changed.
-    for (place, change) in [
-        (0, 1),
-        (1, 0x80),
-        (2, 1),
-        (2, 3),
-        (3, 1),
-        (4, 1),
-        (5, 1),
-        (6, 1),
-        (7, 1),
-    ] {
-        let mut bytes = written(&state(random, 3000));
-        bytes[record::BODY + place] ^= change;
-        put(&bytes);
-    }
-    // Too few bytes before the trailer, and the trailer alone.
-    put(&written(&zero)[1..]);
-    put(&[&[7; 5][..], &record::TRAILER].concat());
-    put(&record::TRAILER);
-    // A record cut short: judged by its own last eight bytes.
-    put(&written(&zero)[..401]);
-    put(&written(&zero)[..300]);
-    put(&written(&zero)[..8]);
-    // Two rows of the order met at once.
-    for changes in [&[(0, 1), (2, 1)][..], &[(2, 2), (4, 1)], &[(4, 1), (6, 1)]] {
-        let mut bytes = written(&state(random, 3000));
-        for &(place, change) in changes {
-            bytes[record::BODY + place] ^= change;
-        }
-        put(&bytes);
-    }
-    let mut cut = written(&zero)[9..].to_vec();
-    let trailer = cut.len() - 8;
-    cut[trailer + 6] = 0;
-    put(&cut);
-    for (sharpening, gain) in [
-        (13018, 0),
-        (-1, 0),
-        (32767, 4096),
-        (-32768, 32767),
-        (13018, -1),
-        (0, -1),
-        (13017, -32768),
-        (13017, 32767),
-        (0, 0),
-        (13016, 1),
-    ] {
-        let mut state = state(random, 3000);
-        state[at::SHARPENING] = sharpening;
-        state[at::GAIN] = gain;
-        put(&written(&state));
-    }
-    records
-}
-
-pub fn record_write(_: &File, random: &mut Random) -> Records {
-    let mut records = Records::new();
-    let mut put = |lent: i16, state: &[i16]| records.push([&[lent][..], state].concat());
-    put(402, &[0; STATE]);
-    for _ in 0..3 {
-        put(402, &state(random, 32767));
-    }
-    for lent in [0, 1, 401, 403] {
-        put(lent, &state(random, 3000));
-    }
-    for (lent, sharpening, gain) in [
-        (402, 13018, 0),
-        (402, -1, 0),
-        (402, 13018, -1),
-        (402, 13017, -1),
-        (402, 0, -32768),
-        (401, 13018, -1),
-        (403, 0, -1),
-        (402, 13017, 32767),
-    ] {
-        let mut state = state(random, 3000);
-        state[at::SHARPENING] = sharpening;
-        state[at::GAIN] = gain;
-        put(lent, &state);
-    }
     records
 }

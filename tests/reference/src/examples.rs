@@ -1,7 +1,7 @@
 //! The stored runs of `examples/`: inputs of the programs, drawn from fixed seeds.
 
 use crate::{
-    FRAME, SHEET, STATE, SUBFRAMES, at,
+    FRAME, SHEET, STATE, SUBFRAMES, ZEROS, at,
     draw::{self, Loudness},
     frame::frame,
     part,
@@ -37,7 +37,7 @@ pub fn input(name: &str) -> Option<Vec<u8>> {
 /// A call: gaps kept, some subframes retried, one sheet refused, the last one cut.
 fn call() -> Vec<u8> {
     let mut random = Random::new(74);
-    let mut bytes = record_of(&[0; STATE]);
+    let mut bytes = record_of(&ZEROS);
     for number in 1..=14 {
         let loudness = if number < 7 {
             Loudness::Speech

@@ -1,9 +1,11 @@
 //! The recorded files: what a record holds, how its answers are made, and what the file covers.
 
+pub mod erased;
 pub mod gains;
 
 use crate::{
-    FRAME, LSFS, MEMORY, NOWHERE, PAST, ROW, SHEET, STATE, SUBFRAME, SUBFRAMES, at, draw, frame,
+    FRAME, LSFS, MEMORY, NOWHERE, PAST, ROW, SHEET, STATE, SUBFRAME, SUBFRAMES, ZEROS, at, draw,
+    frame,
     model::{self, Fault, Trace, step},
     mr74::stages,
     part,
@@ -171,9 +173,9 @@ pub const LAGS: [i16; 10] = [19, 20, 21, 39, 40, 41, 49, 50, 85, 143];
 /// Words of the sheet in a refused record: longer sheets than 182 fit.
 pub const SHEET_AREA: usize = 184;
 /// Bytes of the record in `record_read.bin`.
-pub const BYTE_AREA: usize = 420;
+pub const BYTE_AREA: usize = 452;
 
-pub static FILES: [File; 21] = [
+pub static FILES: [File; 28] = [
     File {
         name: "lsp.bin",
         seed: 101,
@@ -698,31 +700,16 @@ pub static FILES: [File; 21] = [
             let sheet = &input[2..2 + input[0] as usize];
             let mut out = vec![0; input[1] as usize];
             let answer = frame::frame(sheet, &part(input, 2 + SHEET_AREA), &mut out);
-            trace.number("refusal", answer.refusal);
-            match answer.refusal {
-                1 => trace.number("refusal 1: length", input[0]),
-                2 => trace.number("refusal 2: place", answer.place),
-                3 => trace.number("refusal 3: place", answer.place),
-                4 => trace.number("refusal 4: place", answer.place),
-                5 => trace.number("refusal 5: length", input[1]),
-                6 => {
-                    trace.number("refusal 6: place", answer.place);
-                    mark_gaps(trace, &sheet[..LSFS]);
-                }
-                _ => {}
-            }
-            // Which later rows of the order the call meets too.
-            for later in draw::FRAME_CALLS.refusals(input) {
-                if later != answer.refusal {
-                    trace.number("refusal before a later one", 100 * answer.refusal + later);
-                }
+            draw::FRAME_CALLS.mark(trace, input, (answer.refusal, answer.place));
+            if answer.refusal == 4 {
+                trace.number("refusal 4: place", answer.place);
             }
             vec![answer.refusal, answer.place]
         },
         kinds: || {
             let mut kinds = refused_kinds(&draw::FRAME_CALLS);
             kinds.extend([
-                Kind::Each("refusal 1: length", vec![0, 1, 181, 183, 184]),
+                Kind::Each("refusal 1: length", vec![0, 1, 171, 178, 181, 183, 184]),
                 Kind::Each("refusal 4: place", (0..8).collect()),
             ]);
             kinds.extend(ones(&BROKEN_KINDS));
@@ -744,15 +731,16 @@ pub static FILES: [File; 21] = [
         ],
         answers: &[
             words("refusal, 0 where accepted", 1),
+            words("place of the refusal", 1),
             words("bytes in the note", 1),
             words("state", STATE),
         ],
-        draw: draw::record_read,
+        draw: draw::records::record_read,
         answer: |input| {
             let bytes = packed(input);
             let read = record::read(&bytes);
             assert!(bytes.starts_with(read.note));
-            let mut answer = vec![read.refusal, read.note.len() as i16];
+            let mut answer = vec![read.refusal, read.place, read.note.len() as i16];
             answer.extend(read.state);
             answer
         },
@@ -760,22 +748,41 @@ pub static FILES: [File; 21] = [
             let bytes = packed(input);
             let read = record::read(&bytes);
             trace.number("refusal", read.refusal);
+            mark_state_refusal(trace, (read.refusal, read.place));
+            if let Some(trailer) = bytes.last_chunk::<8>() {
+                let version = i16::from(trailer[2]);
+                match read.refusal {
+                    0 => trace.number("version read", version),
+                    14 => trace.number("version of another distance or count", version),
+                    15 => trace.number("version of a short body", version),
+                    _ => {}
+                }
+            }
             if read.refusal == 0 {
                 trace.number("bytes in the note", read.note.len() as i16);
                 trace.number("accepted sharpening", read.state[at::SHARPENING]);
                 trace.number("accepted smoothed gain", read.state[at::GAIN]);
+                trace.number("accepted last lag", read.state[at::LAST_LAG]);
+                trace.number("accepted mark", read.state[at::ERASED]);
             }
-            let mut answer = vec![read.refusal, read.note.len() as i16];
+            let mut answer = vec![read.refusal, read.place, read.note.len() as i16];
             answer.extend(read.state);
             answer
         },
         kinds: || {
-            vec![
-                Kind::Each("refusal", vec![0, 11, 12, 13, 14, 15, 16, 17]),
+            let mut kinds = vec![
+                Kind::Each("refusal", vec![0, 11, 12, 13, 14, 15, 16, 17, 18, 19]),
+                Kind::Each("version read", vec![1, 2]),
+                Kind::Each("version of another distance or count", vec![1, 2]),
+                Kind::Each("version of a short body", vec![1, 2]),
                 Kind::Each("bytes in the note", vec![0, 1, 2, 7, 8, 18]),
                 Kind::Each("accepted sharpening", vec![0, 13017]),
                 Kind::Each("accepted smoothed gain", vec![0, 32767]),
-            ]
+                Kind::Each("accepted last lag", vec![19, 40, 144]),
+                Kind::Each("accepted mark", vec![0, 1]),
+            ];
+            kinds.push(state_kind());
+            kinds
         },
         published: false,
         faults: &[],
@@ -786,16 +793,17 @@ pub static FILES: [File; 21] = [
         inputs: &[words("bytes in the lent output", 1), words("state", STATE)],
         answers: &[
             words("refusal, 0 where written", 1),
+            words("place of the refusal", 1),
             words(
                 "the record, two bytes a word; zeros where refused",
                 record::RECORD / 2,
             ),
         ],
-        draw: draw::record_write,
+        draw: draw::records::record_write,
         answer: |input| {
             let mut out = vec![0xA5; input[0] as usize];
-            let refusal = record::write(&part(input, 1), &mut out);
-            let mut answer = vec![refusal];
+            let (refusal, place) = record::write(&part(input, 1), &mut out);
+            let mut answer = vec![refusal, place];
             if refusal == 0 {
                 let (pairs, _) = out.as_chunks();
                 answer.extend(pairs.iter().map(|&pair| i16::from_le_bytes(pair)));
@@ -807,19 +815,21 @@ pub static FILES: [File; 21] = [
         },
         model: |trace, input| {
             let mut out = vec![0; input[0] as usize];
-            let refusal = record::write(&part(input, 1), &mut out);
+            let (refusal, place) = record::write(&part(input, 1), &mut out);
             trace.number("refusal", refusal);
+            mark_state_refusal(trace, (refusal, place));
             trace.number("lent bytes", input[0]);
-            let mut answer = vec![refusal];
+            let mut answer = vec![refusal, place];
             let (pairs, _) = out.as_chunks();
             answer.extend(pairs.iter().map(|&pair| i16::from_le_bytes(pair)));
-            answer.resize(1 + record::RECORD / 2, 0);
+            answer.resize(2 + record::RECORD / 2, 0);
             answer
         },
         kinds: || {
             vec![
-                Kind::Each("refusal", vec![0, 5, 16, 17]),
-                Kind::Each("lent bytes", vec![0, 1, 401, 402, 403]),
+                Kind::Each("refusal", vec![0, 5, 16, 17, 18, 19]),
+                Kind::Each("lent bytes", vec![0, 1, 402, 433, 434, 435]),
+                state_kind(),
             ]
         },
         published: false,
@@ -829,22 +839,70 @@ pub static FILES: [File; 21] = [
     gains::REFUSED,
     gains::FRAME_INDEXED,
     gains::REFUSED_INDEXED,
+    erased::PITCH_CONCEAL,
+    erased::CONCEAL_ENERGY,
+    erased::GAIN_CONCEAL,
+    erased::GAIN_UPDATE,
+    erased::FRAME_ERASED,
+    erased::FRAME_MIXED,
+    erased::REFUSED_ERASED,
 ];
 
-/// What the refused calls of both kinds of sheet show.
+/// Every place of refusal 18.
+fn state_kind() -> Kind {
+    Kind::Each("refusal 18: place", (198..=212).collect())
+}
+
+fn mark_state_refusal(trace: &mut Trace, (refusal, place): frame::Refusal) {
+    match refusal {
+        18 => trace.number("refusal 18: place", place),
+        19 => assert_eq!(place, 197),
+        _ => {}
+    }
+}
+
+impl draw::Calls {
+    /// What a refused call of a kind of sheet shows.
+    fn mark(&self, trace: &mut Trace, input: &[i16], (refusal, place): frame::Refusal) {
+        trace.number("refusal", refusal);
+        match refusal {
+            1 => trace.number("refusal 1: length", input[0]),
+            2 => trace.number("refusal 2: place", place),
+            3 => trace.number("refusal 3: place", place),
+            5 => trace.number("refusal 5: length", input[1]),
+            6 => {
+                trace.number("refusal 6: place", place);
+                mark_gaps(trace, &input[self.sheet..self.sheet + LSFS]);
+            }
+            _ => mark_state_refusal(trace, (refusal, place)),
+        }
+        // Which later rows of the order the call meets too.
+        for later in self.refusals(input) {
+            if later != refusal {
+                trace.number("refusal before a later one", 100 * refusal + later);
+            }
+        }
+    }
+}
+
+/// What the refused calls of each kind of sheet show.
 fn refused_kinds(calls: &draw::Calls) -> Vec<Kind> {
     let order = calls.order;
     let pairs = (0..order.len())
         .flat_map(|first| (first + 1..order.len()).map(move |later| (first, later)))
         .map(|(first, later)| 100 * order[first] + order[later]);
-    vec![
+    let mut kinds = vec![
         Kind::Each("refusal", order.to_vec()),
         Kind::Each("refusal 2: place", (0..10).collect()),
-        Kind::Each("refusal 3: place", (0..4).collect()),
         Kind::Each("refusal 5: length", vec![0, 1, 159, 161, 162]),
         Kind::Each("refusal 6: place", (0..10).collect()),
+        state_kind(),
         Kind::Each("refusal before a later one", pairs.collect()),
-    ]
+    ];
+    if order.contains(&3) {
+        kinds.push(Kind::Each("refusal 3: place", (0..4).collect()));
+    }
+    kinds
 }
 
 /// Not a file: frames whose LSFs break the gap, searched for what a decoder that does not test it
@@ -917,9 +975,9 @@ fn frame_model(trace: &mut Trace, input: &[i16]) -> Vec<i16> {
     trace.mark_if(!falling, "previous LSPs not falling");
     trace.mark_if(previous.contains(&-32768), "previous LSP -32768");
     trace.mark_if(previous.contains(&32767), "previous LSP 32767");
-    trace.mark_if(state.iter().all(|&field| field == 0), "all-zero state");
+    trace.mark_if(state == ZEROS, "state of zeros");
     mark_extremes(trace, &state[at::PAST..at::SHARPENING]);
-    model::frame(trace, sheet, state)
+    model::frame::frame(trace, sheet, state)
 }
 
 fn mark_gaps(trace: &mut Trace, lsf: &[i16]) {
@@ -999,7 +1057,7 @@ static POSTFILTER_FAULTS: [Fault; 4] = [
 
 fn frame_kinds() -> Vec<Kind> {
     let mut kinds = ones(&[
-        "all-zero state",
+        "state of zeros",
         "ordinary",
         "-32768 and 32767",
         "silence",
@@ -1046,7 +1104,7 @@ const KEPT_PLACES: [i16; 25] = [
     0, 1, 2, 3, 4, 5, 6, 8, 9, 10, 12, 14, 15, 17, 18, 21, 23, 28, 31, 32, 34, 37, 38, 39, 40,
 ];
 
-static FRAME_FAULTS: [Fault; 32] = [
+static FRAME_FAULTS: [Fault; 39] = [
     Fault::LspTowardZero,
     Fault::BlendTowardZero,
     Fault::CoefficientTowardZero,
@@ -1079,4 +1137,11 @@ static FRAME_FAULTS: [Fault; 32] = [
     Fault::SecondHistory,
     Fault::TiltTowardZero,
     Fault::GainKept,
+    Fault::PastNotHeld,
+    Fault::FiveNotHeld,
+    Fault::CodeHeld,
+    Fault::NewestLeaves,
+    Fault::GoodAlwaysHeld,
+    Fault::LastGoodHeld,
+    Fault::LastLagKept,
 ];

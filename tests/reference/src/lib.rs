@@ -7,6 +7,7 @@
 #[allow(dead_code, unused, unreachable_code, clippy::all)]
 pub mod mr74 {
     include!(concat!(env!("OUT_DIR"), "/reference/mr74/mod.rs"));
+    pub mod erased;
     pub mod places;
     pub mod sheet;
     pub mod stages;
@@ -71,9 +72,20 @@ pub const PAST: usize = 154;
 pub const SHEET: usize = 182;
 /// The sheet that has indices of gains, four for the eight gains.
 pub const INDEX_SHEET: usize = 178;
-pub const STATE: usize = 197;
+/// The sheet of an erased frame.
+pub const ERASED_SHEET: usize = 171;
+pub const STATE: usize = 213;
+/// The state's fields that hold gains: the fives, the past gains, the last good pair.
+pub const GAIN_FIELDS: usize = 14;
 /// The postfilter's part of the state: input, output, residual, smoothed gain.
 pub const MEMORY: usize = 22;
+
+/// What a version 1 record of zeros gives: zeros but for the last lag.
+pub const ZEROS: [i16; STATE] = {
+    let mut state = [0; STATE];
+    state[at::LAST_LAG] = 40;
+    state
+};
 
 /// The place of a pass in which no step clamped.
 pub const NOWHERE: i16 = SUBFRAME as i16;
@@ -85,18 +97,25 @@ pub fn flag(place: i16) -> i16 {
 
 /// Where the parts of the sheet and of the state begin.
 pub mod at {
-    // Both sheets; their LSFs begin at 0. What stands for the gains are gains or their indices.
+    // The sheets; their LSFs begin at 0. What stands for the gains are gains or their indices.
     pub const PITCH: usize = 10;
     pub const GAINS: usize = 14;
     pub const INNOVATION: usize = 22;
     /// The index sheet's.
     pub const INDEXED_INNOVATION: usize = 18;
+    /// The erased sheet's.
+    pub const STAGE: usize = 10;
+    pub const ERASED_INNOVATION: usize = 11;
     // The state; its previous LSPs begin at 0.
     pub const PAST: usize = 10;
     pub const SHARPENING: usize = 164;
     pub const HISTORY: usize = 165;
     pub const MEMORY: usize = 175;
     pub const GAIN: usize = 196;
+    pub const LAST_LAG: usize = 197;
+    /// Five pitch gains, five code gains, past gains, last good pair.
+    pub const GAIN_FIELDS: usize = 198;
+    pub const ERASED: usize = 212;
 }
 
 /// Copies `N` numbers from `from` on.

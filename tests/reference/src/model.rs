@@ -4,10 +4,12 @@
 //! It brings no answer into the recorded files. The cosine, the interpolation and the gain table are
 //! read off the reference's answers; everything else is its own.
 
+pub mod concealment;
+pub mod frame;
 pub mod gains;
 
 use crate::{
-    FRAME, LSFS, NOWHERE, PAST, ROW, STATE, SUBFRAME, SUBFRAMES, at, flag,
+    FRAME, LSFS, NOWHERE, PAST, ROW, SUBFRAME, SUBFRAMES,
     mr74::stages::{self, Lag},
     part,
 };
@@ -77,6 +79,38 @@ faults! {
     PowerTimes16: "power's fraction times 16",
     PowerNotRounded: "power not rounded",
     CodeGainWraps: "code gain shifted up without a clamp",
+    MedianSecond: "the second of the five in order",
+    MedianAsItCame: "the third of the five as they came",
+    PastNotHeldTo: "concealed gain not held to the past gain",
+    StageBefore: "the entry of the stage before",
+    StageTablesExchanged: "the two tables of the stages exchanged",
+    ConcealedHeld: "concealed pitch gain held to 16384 before its use",
+    PastNotHeld: "past pitch gain not held to 16384",
+    FiveNotHeld: "pitch gain enters its five not held to 16384",
+    CodeHeld: "code gain held to 16384 too",
+    NewestLeaves: "the newest of the five leaves",
+    ConcealedNotEntered: "concealed gains do not enter the fives",
+    GoodNotHeld: "no hold after an erased frame",
+    GoodAlwaysHeld: "hold without a mark",
+    GoodHeldOnce: "hold in the first subframe alone",
+    GoodHeldToPast: "hold to the past gains",
+    GoodHeldTogether: "both gains held where one is",
+    LastGoodHeld: "last good pitch gain held to 16384",
+    LastGoodUnheld: "last good pair from before the hold",
+    LastGoodOfErased: "an erased frame's gains become the last good pair",
+    LagRaisedAt143: "a last lag of 143 raised",
+    LagLowered: "a last lag of 144 lowered to 143",
+    LagRaisedOnce: "the lag raised once a frame",
+    LastLagKept: "last lag not taken from a good frame",
+    MarkKept: "mark not cleared by a good frame",
+    MarkNotSet: "mark not set by an erased frame",
+    AverageUnclamped: "no clamp between the sums of the energies",
+    AverageTowardZero: "average of the energies toward zero",
+    AverageOldestFirst: "energies summed from the oldest",
+    AverageOnce: "energies stepped once a frame",
+    AverageEnteredLast: "average of the energies entered last",
+    GainsSharpenedUnheld: "gains from innovation sharpened by gains that are not held",
+    ErasedSharpeningKept: "sharpening kept through an erased frame",
 }
 
 /// What a run of the model saw, and the fault it was given.
@@ -666,124 +700,4 @@ fn enhance(
         return enhanced;
     }
     match_energy(trace, feedback, &enhanced)
-}
-
-/// An accepted frame: 160 samples, four places, 44 coefficients and the next state.
-pub fn frame(trace: &mut Trace, sheet: &[i16], state: &[i16]) -> Vec<i16> {
-    let old = part(state, 0);
-    let new: [i16; LSFS] = std::array::from_fn(|index| lsp(trace, sheet[index]));
-    let rows = interpolate(trace, &old, &new);
-    let mut past: [i16; PAST] = part(state, at::PAST);
-    let mut sharpening = state[at::SHARPENING];
-    let mut history: [i16; LSFS] = part(state, at::HISTORY);
-    let mut previous_lag = 0;
-    let mut synthesized = Vec::new();
-    let mut places = [NOWHERE; SUBFRAMES];
-    for subframe in 0..SUBFRAMES {
-        let index = sheet[at::PITCH + subframe];
-        let lag = if subframe.is_multiple_of(2) {
-            lag_absolute(trace, index)
-        } else {
-            lag_relative(trace, index, previous_lag)
-        };
-        previous_lag = lag.0;
-        trace.number("lag", lag.0);
-        let prediction = predict(trace, &past, lag);
-        let [pitch_gain, code_gain] = part(sheet, at::GAINS + 2 * subframe);
-        for (edge, kind) in [
-            (8192, "pitch gain 8192"),
-            (8193, "pitch gain 8193"),
-            (0, "pitch gain 0"),
-            (32767, "pitch gain 32767"),
-        ] {
-            trace.mark_if(pitch_gain == edge, kind);
-        }
-        let mut innovation = part(sheet, at::INNOVATION + SUBFRAME * subframe);
-        let next_sharpening = pitch_gain.min(13017);
-        let used = if trace.has(Fault::SharpeningOfThisGain) {
-            next_sharpening
-        } else {
-            sharpening
-        };
-        sharpen(trace, &mut innovation, lag.0, used);
-        sharpening = next_sharpening;
-        trace.mark_if(sharpening == 13017, "sharpening 13017");
-        let feedback: [i16; SUBFRAME] = std::array::from_fn(|sample| {
-            let sum = l_mult(wide(prediction[sample]), wide(pitch_gain))
-                + l_mult(wide(innovation[sample]), wide(code_gain));
-            let doubled = trace.clamp32(2 * clamp32(sum), "feedback: doubling clamped");
-            let rounded = trace.clamp32(doubled + 32768, "feedback: rounding clamped");
-            trace.down(rounded, 16, Fault::FeedbackTowardZero) as i16
-        });
-        let first = enhance(trace, &feedback, &prediction, wide(pitch_gain));
-        let mut output = synthesis(trace, &rows[subframe], &history, &first);
-        let mut kept = feedback;
-        let place = output.place(trace);
-        trace.number("place", place);
-        places[subframe] = if trace.has(Fault::PlaceOnFeedback) {
-            synthesis(trace, &rows[subframe], &history, &feedback).place(trace)
-        } else {
-            place
-        };
-        if place != NOWHERE {
-            let steps = output.steps();
-            let tap = steps & step::TAP != 0;
-            trace.mark_if(tap, "first pass: a tap's product clamped");
-            for (only, kind) in [
-                (step::DIFFERENCE, "first pass: only differences clamped"),
-                (step::TIMES_8, "first pass: only times 8 clamped"),
-                (step::ROUNDING, "first pass: only plus 32768 clamped"),
-            ] {
-                trace.mark_if(steps == only, kind);
-            }
-            trace.mark_if(output.returned(), "first pass: back into range");
-            let toward = Fault::QuarterTowardZero;
-            let quarter = |sample| trace.down(wide(sample), 2, toward) as i16;
-            let quartered = feedback.map(quarter);
-            let second = if trace.has(Fault::QuarterEnhanced) {
-                first.map(quarter)
-            } else {
-                quartered
-            };
-            if !trace.has(Fault::PastNotQuartered) {
-                past = past.map(quarter);
-            }
-            if !trace.has(Fault::FeedbackNotQuartered) {
-                kept = quartered;
-            }
-            if trace.has(Fault::SecondHistory) {
-                history = part(&output.samples, SUBFRAME - LSFS);
-            }
-            output = synthesis(trace, &rows[subframe], &history, &second);
-            if trace.has(Fault::PlaceFromSecondPass) {
-                places[subframe] = output.place(trace);
-            }
-            let clamped = output.steps() != 0;
-            trace.mark_if(clamped, "second pass clamped");
-            trace.mark_if(!clamped, "second pass not clamped");
-        } else {
-            trace.mark_if(output.steps() == 0, "not retried");
-        }
-        history = part(&output.samples, SUBFRAME - LSFS);
-        synthesized.extend(output.samples);
-        past.copy_within(SUBFRAME.., 0);
-        past[PAST - SUBFRAME..].copy_from_slice(&kept);
-    }
-    let pattern = |pattern, &place: &i16| 2 * pattern + flag(place);
-    trace.number("flags", places.iter().fold(0, pattern));
-    let (mut answer, memory) = postfilter(trace, &state[at::MEMORY..STATE], &synthesized, &rows);
-    let peak = answer.iter().map(|sample| sample.unsigned_abs()).max();
-    trace.mark_if(peak >= Some(32760), "peak 32760 or more");
-    let negative = answer.iter().all(|&sample| sample < 0);
-    trace.mark_if(negative, "samples all negative");
-    trace.mark_if(answer.contains(&-32768), "sample -32768");
-    trace.mark_if(answer.iter().all(|&sample| sample == 0), "silence");
-    answer.extend(places);
-    answer.extend(rows.as_flattened());
-    answer.extend(new);
-    answer.extend(past);
-    answer.push(sharpening);
-    answer.extend(history);
-    answer.extend(memory);
-    answer
 }

@@ -5,11 +5,12 @@ mod process;
 mod totals;
 
 use crate::{
-    STATE, at, bench,
+    ZEROS, at, bench,
     draw::{self, Loudness},
     examples::RUNS,
     random::Random,
-    record, report, sheets,
+    record::{self, first},
+    report, sheets,
     tally::Tally,
     values,
 };
@@ -26,9 +27,10 @@ pub fn bytes_of(numbers: &[i16]) -> Vec<u8> {
         .collect()
 }
 
+/// Of version 1, which has the first fields of a state.
 pub fn record_of(state: &[i16]) -> Vec<u8> {
-    let mut bytes = bytes_of(state);
-    bytes.extend(record::TRAILER);
+    let mut bytes = bytes_of(&state[..first::FIELDS]);
+    bytes.extend(first::TRAILER);
     bytes
 }
 
@@ -88,10 +90,11 @@ fn refused_sheets(random: &mut Random) -> Vec<Vec<i16>> {
     sheets
 }
 
-/// Records of 402 bytes that are turned back by 12, 13, 14, 16 or 17.
+/// Records of 402 bytes that are turned back by 12, 13, 14, 16 or 17, and one with the trailer of
+/// version 2, by 15.
 fn bad_records(good: &[u8]) -> Vec<Vec<u8>> {
-    let mut bad = Vec::new();
-    for place in record::BODY..record::RECORD {
+    let mut bad = vec![[&good[..first::BODY], &record::TRAILER].concat()];
+    for place in first::BODY..first::RECORD {
         for change in [1, 0x80, 0xFF] {
             let mut bytes = good.to_vec();
             bytes[place] ^= change;
@@ -147,7 +150,7 @@ fn negative_input(random: &mut Random) -> Option<Vec<u8>> {
 /// A call of `sheets` sheets, drawn from a seed; once in `refusals` a sheet is refused.
 pub fn call(seed: u64, sheets: usize, refusals: i64) -> impl Iterator<Item = Vec<u8>> {
     let mut random = Random::new(seed);
-    let first = record_of(&[0; STATE]);
+    let first = record_of(&ZEROS);
     let rest = (0..sheets).map(move |_| {
         let mut sheet = sheet(&mut random);
         if random.once_in(refusals) {

@@ -1,66 +1,92 @@
-//! The handover record's reader and writer, from document 01 alone: the published Rust has none.
+//! The handover record's reader and writer, from the papers alone: the published Rust has none.
 
-use crate::{STATE, frame::refused_state};
+use crate::{
+    STATE, ZEROS,
+    frame::{Refusal, check_state},
+};
 
 pub const BODY: usize = 2 * STATE;
-pub const TRAILER: [u8; 8] = [0x4D, 0x37, 1, 0, 0x8A, 1, 0xC5, 0];
+/// Of version 2, which is written.
+pub const TRAILER: [u8; 8] = [0x4D, 0x37, 2, 0, 0xAA, 1, 0xD5, 0];
 pub const RECORD: usize = BODY + TRAILER.len();
+
+/// Version 1, which is read: its fields are the state's first.
+pub mod first {
+    pub const FIELDS: usize = 197;
+    pub const BODY: usize = 2 * FIELDS;
+    pub const TRAILER: [u8; 8] = [0x4D, 0x37, 1, 0, 0x8A, 1, 0xC5, 0];
+    pub const RECORD: usize = BODY + TRAILER.len();
+}
 
 #[derive(Debug, Clone, PartialEq, Eq)]
 pub struct Read<'a> {
     /// 0 where the record was accepted.
     pub refusal: i16,
+    /// Of the refusal.
+    pub place: i16,
     pub state: [i16; STATE],
     pub note: &'a [u8],
 }
 
-fn accepted(bytes: &[u8]) -> Result<([i16; STATE], &[u8]), i16> {
+fn accepted(bytes: &[u8]) -> Result<([i16; STATE], &[u8]), Refusal> {
     let Some((before, trailer)) = bytes.split_last_chunk::<8>() else {
-        return Err(11);
+        return Err((11, 0));
     };
     let word = |at: usize| u16::from_le_bytes([trailer[at], trailer[at + 1]]);
     if trailer[..2] != [0x4D, 0x37] {
-        return Err(12);
+        return Err((12, 0));
     }
-    if word(2) != 1 {
-        return Err(13);
-    }
-    if word(4) != 394 || word(6) != 197 {
-        return Err(14);
-    }
-    let Some((note, body)) = before.split_last_chunk::<BODY>() else {
-        return Err(15);
+    let (distance, count) = match word(2) {
+        1 => (394, 197),
+        2 => (426, 213),
+        _ => return Err((13, 0)),
     };
-    let state =
-        std::array::from_fn(|field| i16::from_le_bytes([body[2 * field], body[2 * field + 1]]));
-    match refused_state(&state) {
-        Some(refusal) => Err(refusal),
-        None => Ok((state, note)),
+    if word(4) != distance || word(6) != count {
+        return Err((14, 0));
     }
+    let Some(note) = before.len().checked_sub(distance.into()) else {
+        return Err((15, 0));
+    };
+    let (note, body) = before.split_at(note);
+    // Of version 1 the later fields are a last lag of 40 and zeros.
+    let mut state = ZEROS;
+    let (pairs, _) = body.as_chunks();
+    for (field, &pair) in state.iter_mut().zip(pairs) {
+        *field = i16::from_le_bytes(pair);
+    }
+    check_state(&state)?;
+    Ok((state, note))
 }
 
-/// In the order 11 to 17. A refused read gives the all-zero state and an empty note.
+/// In the order 11 to 15, then the state. A refused read gives the all-zero state and an empty note.
 pub fn read(bytes: &[u8]) -> Read<'_> {
     match accepted(bytes) {
         Ok((state, note)) => Read {
             refusal: 0,
+            place: 0,
             state,
             note,
         },
-        Err(refusal) => Read {
+        Err((refusal, place)) => Read {
             refusal,
+            place,
             state: [0; STATE],
             note: &[],
         },
     }
 }
 
-/// In the order 5, 16, 17; 0 where the record was written. A refused write leaves `out` as it was.
-pub fn write(state: &[i16; STATE], out: &mut [u8]) -> i16 {
-    if out.len() != RECORD {
-        return 5;
+fn check_write(state: &[i16; STATE], room: usize) -> Result<(), Refusal> {
+    if room != RECORD {
+        return Err((5, 0));
     }
-    if let Some(refusal) = refused_state(state) {
+    check_state(state)
+}
+
+/// In the order 5, then the state; 0 and 0 where the record was written. A refused write leaves `out`
+/// as it was.
+pub fn write(state: &[i16; STATE], out: &mut [u8]) -> Refusal {
+    if let Err(refusal) = check_write(state, out.len()) {
         return refusal;
     }
     let (body, trailer) = out.split_at_mut(BODY);
@@ -68,5 +94,5 @@ pub fn write(state: &[i16; STATE], out: &mut [u8]) -> i16 {
         bytes.copy_from_slice(&field.to_le_bytes());
     }
     trailer.copy_from_slice(&TRAILER);
-    0
+    (0, 0)
 }

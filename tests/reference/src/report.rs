@@ -9,7 +9,7 @@ use crate::{
 pub const LIMIT: usize = 65_535;
 
 /// The longest input that is read whole.
-pub const BYTES: usize = record::RECORD + LIMIT * sheets::BYTES;
+pub const BYTES: usize = record::first::RECORD + LIMIT * sheets::BYTES;
 
 pub fn line(input: &[u8]) -> String {
     match sheets::of(input) {

@@ -1,5 +1,5 @@
-//! The programs' input, from document 01: a record, then sheets, each decoded with the state that
-//! the one before gave back.
+//! The programs' input, from document 01: a record of version 1, then sheets, each decoded with the
+//! state that the one before gave back.
 
 use crate::{FRAME, SHEET, STATE, SUBFRAMES, flag, frame, record};
 
@@ -66,7 +66,7 @@ fn next(state: &mut [i16; STATE], bytes: &[u8]) -> Sheet {
 
 /// The sheets of an input, or the number of its record's refusal.
 pub fn of(input: &[u8]) -> Result<impl Iterator<Item = Sheet>, i16> {
-    let (first, rest) = input.split_at(input.len().min(record::RECORD));
+    let (first, rest) = input.split_at(input.len().min(record::first::RECORD));
     let read = record::read(first);
     if read.refusal != 0 {
         return Err(read.refusal);

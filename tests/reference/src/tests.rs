@@ -1,5 +1,8 @@
+mod erased;
+
 use crate::{
-    FRAME, INDEX_SHEET, LSF_GAP, LSFS, NOWHERE, ROW, SHEET, STATE, SUBFRAME, SUBFRAMES, at, draw,
+    FRAME, INDEX_SHEET, LSF_GAP, LSFS, NOWHERE, ROW, SHEET, STATE, SUBFRAME, SUBFRAMES, ZEROS, at,
+    draw,
     files::{self, FILES},
     frame::{frame, frame_indexed},
     gain::{self, OPENING, TABLE},
@@ -12,7 +15,8 @@ use crate::{
     mr74::stages,
     part,
     random::Random,
-    record, report,
+    record::{self, first},
+    report,
     sheets::Frame,
     values,
 };
@@ -113,9 +117,16 @@ fn places_follow_the_recurrence() {
     assert!(met.into_iter().eq(0..=40));
 }
 
+/// An accepted state, most of its numbers this one.
+fn state_of(number: i16) -> [i16; STATE] {
+    let mut state = [number; STATE];
+    (state[at::LAST_LAG], state[at::ERASED]) = (40, 1);
+    state
+}
+
 #[test]
 fn refused_calls_change_nothing() {
-    let mut state = [7; STATE];
+    let mut state = state_of(7);
     let mut out = [5; FRAME];
     let mut sheet = [0; SHEET];
     for (lsf, number) in sheet[..LSFS].iter_mut().zip(1..) {
@@ -131,6 +142,12 @@ fn refused_calls_change_nothing() {
     assert_eq!(frame(&sheet[1..], &state, &mut out[1..]).refusal, 1);
     assert_eq!(frame(&sheet, &state, &mut out[1..]).refusal, 5);
     sheet[at::GAINS + 3] = 0;
+    state[at::LAST_LAG] = 18;
+    let answer = frame(&sheet, &state, &mut out);
+    assert_eq!((answer.refusal, answer.place), (19, 197));
+    state[at::ERASED] = 2;
+    let answer = frame(&sheet, &state, &mut out);
+    assert_eq!((answer.refusal, answer.place), (18, 212));
     state[at::SHARPENING] = 13018;
     assert_eq!(frame(&sheet, &state, &mut out).refusal, 16);
     assert_eq!(out, [5; FRAME]);
@@ -158,13 +175,40 @@ fn gap_rule_is_the_sources() {
 
 #[test]
 fn records_come_back() {
-    let state: [i16; STATE] = std::array::from_fn(|field| 66 * field as i16);
+    let mut state: [i16; STATE] = std::array::from_fn(|field| 66 * field as i16);
+    (state[at::LAST_LAG], state[at::ERASED]) = (144, 1);
     let mut bytes = vec![9; 3 + record::RECORD];
-    assert_eq!(record::write(&state, &mut bytes[3..]), 0);
+    assert_eq!(record::write(&state, &mut bytes[3..]), (0, 0));
     let read = record::read(&bytes);
     assert_eq!((read.refusal, read.state), (0, state));
     assert_eq!(read.note, [9; 3]);
     assert_eq!(record::read(&bytes[..record::RECORD]).refusal, 12);
+    // With the trailer of version 1 its last 197 numbers are the body.
+    let end = bytes.len() - 8;
+    bytes[end..].copy_from_slice(&first::TRAILER);
+    let read = record::read(&bytes);
+    assert_eq!((read.refusal, read.note.len()), (0, 3 + 32));
+    assert_eq!(read.state[..first::FIELDS], state[16..]);
+}
+
+/// A record of version 1 is read, and written again as one of version 2.
+#[test]
+fn first_version_is_read() {
+    let mut bytes = vec![7; 5];
+    let numbers = (0..197).map(|field: i16| 66 * field);
+    bytes.extend(numbers.clone().flat_map(i16::to_le_bytes));
+    bytes.extend(first::TRAILER);
+    let read = record::read(&bytes);
+    assert_eq!((read.refusal, read.note), (0, &[7; 5][..]));
+    let later = std::iter::once(40).chain([0; 15]);
+    assert!(read.state.into_iter().eq(numbers.chain(later)));
+    let mut written = [0; record::RECORD];
+    assert_eq!(record::write(&read.state, &mut written), (0, 0));
+    assert_eq!(record::read(&written).state, read.state);
+    // A body of version 1 is too short for version 2.
+    let end = bytes.len() - 8;
+    bytes[end..].copy_from_slice(&record::TRAILER);
+    assert_eq!(record::read(&bytes).refusal, 15);
 }
 
 /// A sheet of the codebook's innovation and the gain decoder's gains is decoded as the published
@@ -172,7 +216,7 @@ fn records_come_back() {
 #[test]
 fn sheets_stand_for_indices() {
     let mut random = Random::new(74);
-    let mut state = [0; STATE];
+    let mut state = ZEROS;
     let mut source = Source::new(&state);
     for _ in 0..500 {
         let lsf = draw::kept(&mut random);
@@ -236,7 +280,7 @@ fn ranges(steps: &Steps) -> Vec<(&'static str, i64, i64, i64)> {
 fn index_sheets_stand_for_indices() {
     let mut random = Random::new(77);
     let tables = tables::standard();
-    let (mut state, mut energies) = ([0; STATE], OPENING);
+    let (mut state, mut energies) = (ZEROS, OPENING);
     let mut source = Source::new(&state);
     for _ in 0..500 {
         let lsf = draw::kept(&mut random);
@@ -287,7 +331,7 @@ fn gain_steps_keep_their_ranges() {
 
 #[test]
 fn refused_index_calls_change_nothing() {
-    let mut state = [7; STATE];
+    let mut state = state_of(7);
     let mut out = [5; FRAME];
     let mut sheet = [0; INDEX_SHEET];
     for (lsf, number) in sheet[..LSFS].iter_mut().zip(1..) {

@@ -1,8 +1,10 @@
 //! Document 01's "Values to hold" and its listing of the bench program, lines of sheets that keep the
-//! gap and break it, and gains of indices, against the reference.
+//! gap and break it, gains of indices, and erased frames, against the reference.
+
+pub mod erased;
 
 use crate::{
-    FRAME, INDEX_SHEET, LSF_GAP, LSFS, NOWHERE, ROW, SHEET, STATE, SUBFRAME, SUBFRAMES, at, bench,
+    FRAME, INDEX_SHEET, LSF_GAP, LSFS, NOWHERE, ROW, SHEET, SUBFRAME, SUBFRAMES, ZEROS, at, bench,
     frame,
     gain::{self, ENERGIES, OPENING, TABLE},
     lent::{
@@ -35,6 +37,7 @@ pub fn run() -> bool {
     hold(&mut tally);
     gains(&mut tally);
     index_frame(&mut tally);
+    erased::run(&mut tally);
     listing(&mut tally);
     tally.end()
 }
@@ -214,8 +217,8 @@ fn index_frame(tally: &mut Tally) {
     let tables = tables::standard();
     let mut out = [0; FRAME];
     let lent = (&tables).into();
-    let answer = frame::frame_indexed(&sheet, &[0; STATE], lent, &OPENING, &mut out);
-    let gains = lent::stages::frame_gains(&sheet, &[0; STATE], &tables, &OPENING);
+    let answer = frame::frame_indexed(&sheet, &ZEROS, lent, &OPENING, &mut out);
+    let gains = lent::stages::frame_gains(&sheet, &ZEROS, &tables, &OPENING);
     let wanted = [[21318, 32767], [10300, 1413], [14406, 5278], [13714, 13485]];
     same(tally, "index frame: gains", gains, wanted);
     let energies = [9221, 7413, 12853, 5816];
@@ -231,8 +234,8 @@ fn index_frame(tally: &mut Tally) {
     );
 }
 
-fn zero_record() -> Vec<u8> {
-    let mut bytes = vec![0; record::BODY];
+pub fn zero_record() -> Vec<u8> {
+    let mut bytes = vec![0; record::first::BODY];
     bytes.extend([0x4D, 0x37, 0x01, 0x00, 0x8A, 0x01, 0xC5, 0x00]);
     bytes
 }

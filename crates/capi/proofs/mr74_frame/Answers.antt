@@ -3,6 +3,7 @@ use borrow.Author.Rules.{rules}
 use mathlib.Core.Path.{ap, ◌∙◌}
 use Rattle.lists.proofs.Signed.{entry_fits}
 use Rattle.decoder.proofs.Results.{Held}
+use Rattle.state.proofs.Checks.{taken_fields}
 use Rattle.capi.specs.Capi.{state_in, sheet_in, room_in}
 use Rattle.capi.proofs.Codes.{frame_place}
 use Rattle.capi.proofs.Buffers.{frame_bytes_lem}
@@ -28,7 +29,8 @@ give-requires c =
       past = record { count = search rules; fit = λ i. search (rules, entry_fits) };
       history = record { count = search rules; fit = λ i. search (rules, entry_fits) };
     } in
-    rw c.frame_out-answer.ensures.value (frame_place sheet c.state_in.result out, frame_bytes_lem sheet c.state_in.result out held)
+    rw c.frame_out-answer.ensures.value
+    (frame_place c.state_in.result (rw c.state_in.ensures (taken_fields _)) sheet out, frame_bytes_lem sheet c.state_in.result out held)
 
 pub returns : goal.returns
 returns c =

@@ -1,6 +1,7 @@
 -- `capi::mr74_write` meets its contract: a state of another length leaves the bytes; else it is read and its record written, and the place is low enough for the code.
 use mathlib.Core.Path.{ap, ◌∙◌}
 use Rattle.record.specs.Record.{WriteResult}
+use Rattle.state.proofs.Checks.{taken_fields}
 use Rattle.capi.specs.Capi.{state_in}
 use Rattle.capi.proofs.Codes.{write_place}
 use Rattle.capi.proofs.Calls.{write_unfit, write_given}
@@ -16,4 +17,4 @@ returns c =
     write_given a.state.now a.bytes.now s.long (c.state_in.ensures ∙ ap state_in s.same) c.write.ensures c.code.ensures
 
 pub code-requires : goal.code-requires
-code-requires c = rw (ap (λ (x : WriteResult). x.outcome) c.write.ensures) (write_place c.state_in.result c.args.bytes.now)
+code-requires c = rw (ap (λ (x : WriteResult). x.outcome) c.write.ensures) (write_place c.state_in.result (rw c.state_in.ensures (taken_fields _)) c.args.bytes.now)

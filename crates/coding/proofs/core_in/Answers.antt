@@ -3,11 +3,15 @@ use mathlib.Core.Path.{ap, ◌∙◌}
 use native.Mathlib.Omega.{arith}
 use borrow.Author.Rules.{rules}
 use Rattle.state.specs.Layout.{core_from, core_of}
-use Rattle.coding.proofs.Words.{four_parts, one_in}
+use Rattle.coding.proofs.Words.{next_part, last_part, one_in}
 use Rattle.coding.proofs.core_in.Goals as goal
 
 pub returns : goal.returns
 unfolding core_of
 returns c =
     (λ i. record { lsp = c.numbers_in-2.ensures i; past = c.numbers_in-3.ensures i; sharpening = record { 0 = one_in (search rules) c.numbers_in.ensures i }; history = c.numbers_in-4.ensures i })
-    ∙ ap core_from (four_parts 10 154 1 10 _ _ _ _ c.split_at.ensures.by_index.0 c.split_at-2.ensures.by_index.0 c.split_at-3.ensures.by_index.0 (omega arith) (omega arith) (omega arith) (omega arith))
+    ∙ ap core_from
+    (next_part 10 _ c.split_at.ensures.by_index.0 (omega arith)
+    (next_part 154 _ c.split_at-2.ensures.by_index.0 (omega arith)
+    (next_part 1 _ c.split_at-3.ensures.by_index.0 (omega arith)
+    (last_part 10 _ (omega arith))))).same

@@ -3,7 +3,7 @@ use mathlib.Core.Path.{ap, ◌∙◌}
 use borrow.Author.Rules.{rules}
 use native.Mathlib.Omega.{arith}
 use Rattle.state.specs.Layout.{post_from, post_of}
-use Rattle.coding.proofs.Words.{four_parts, one_in}
+use Rattle.coding.proofs.Words.{next_part, last_part, one_in}
 use Rattle.coding.proofs.post_in.Goals as goal
 
 pub returns : goal.returns
@@ -15,4 +15,8 @@ returns c =
       previous_residual = one_in (search rules) c.numbers_in.ensures i;
       gain = record { previous_gain = one_in (search rules) c.numbers_in-2.ensures i };
     })
-    ∙ ap post_from (four_parts 10 10 1 1 _ _ _ _ c.split_at.ensures.by_index.0 c.split_at-2.ensures.by_index.0 c.split_at-3.ensures.by_index.0 (omega arith) (omega arith) (omega arith) (omega arith))
+    ∙ ap post_from
+    (next_part 10 _ c.split_at.ensures.by_index.0 (omega arith)
+    (next_part 10 _ c.split_at-2.ensures.by_index.0 (omega arith)
+    (next_part 1 _ c.split_at-3.ensures.by_index.0 (omega arith)
+    (last_part 1 _ (omega arith))))).same

@@ -1,19 +1,19 @@
--- `coding::state_in`: core and postfilter are split off, as the numbers are cut.
-use mathlib.Core.Path.{ap, ap₂, ◌∙◌}
-use mathlib.Core.List.{List}
+-- `coding::state_in`: the signal's bytes are split off, and the concealment is of the rest.
+use mathlib.Core.Path.{ap, ap₂, sym, ◌∙◌}
+use mathlib.Core.List.{List, ◌++◌}
 use Prim.Native.Nat.{ℕ}
 use native.Mathlib.Omega.{arith}
-use Rattle.state.specs.Layout.{core_of, post_of, state_from, state_of}
-use Rattle.state.specs.declared.State.{State}
+use lib.ListN.{length}
+use Rattle.state.specs.Layout.{state_of}
 use Rattle.coding.specs.Bytes.{words}
-use Rattle.coding.proofs.Words.{two_parts}
+use Rattle.coding.proofs.Words.{words_append, words_length}
 use Rattle.coding.proofs.state_in.Goals as goal
 
 pub returns : goal.returns
-unfolding state_of
 returns c =
-    let core = rw c.unwrap.ensures at c.as_array.ensures.cases in
-    let post = rw c.unwrap-2.ensures at c.as_array-2.ensures.cases in
-    (λ i. record { core = c.core_in.ensures i; post = c.post_in.ensures i })
-    ∙ ap₂ (λ (x y : List ℕ). let s : State = record { core = core_of (words x); post = post_of (words y) } in s) core.same post.same
-    ∙ ap state_from (two_parts 175 22 _ _ c.split_at.ensures.by_index.0 c.split_at.ensures.front_len (omega arith))
+    let rest = rw c.unwrap.ensures at c.as_array.ensures.cases in
+    let signal = rw c.unwrap-2.ensures at c.as_array-2.ensures.cases in
+    let long = ap length rest.same in
+    c.state_with.ensures _ (words_length c.unwrap.result.now 16 (omega (arith, long))) c.concealment_in-concealment.ensures
+    ∙ ap state_of
+    (ap₂ (λ (x y : List ℕ). words x ++ words y) signal.same rest.same ∙ sym (words_append 197 _ _ c.split_at.ensures.front_len) ∙ ap words (sym c.split_at.ensures.by_index.0))

@@ -1,16 +1,18 @@
 -- The checks, then the frame or the refusal: answer_accepted, answer_refused.
 use native.Mathlib.Omega.{arith}
+use mathlib.Core.List.{List}
 use mathlib.Core.Path.{◌≡◌, ap, ◌∙◌}
 use borrow.Author.Rules.{rules}
+use lib.IntN.{ℤ}
 use lib.ListN.{length}
-use Rattle.std.specs.Prelude.{Ok}
 use Rattle.outcome.specs.Outcome.{is_accepted}
-use Rattle.decoder.specs.Inputs.{FrameInputs}
-use Rattle.mr74.specs.Sheet.{sheet_inputs}
-use Rattle.mr74.specs.Frame.{accepted_trace, result_of}
+use Rattle.mr74.specs.Sheet.{frame_prepared}
 use Rattle.mr74.proofs.Passed.{passed}
 use Rattle.mr74.proofs.Answers.{answer_accepted, answer_refused}
 use Rattle.mr74.proofs.frame.Goals as goal
+
+pub inputs-requires : goal.inputs-requires
+inputs-requires c = (passed _ _ _ (ap is_accepted c.in-Ok.ensures.0)).state.concealment.gains
 
 pub copy_from_slice-requires : goal.copy_from_slice-requires
 copy_from_slice-requires c =
@@ -20,8 +22,8 @@ copy_from_slice-requires c =
 pub returns-in-Ok : goal.returns-in-Ok
 returns-in-Ok c =
     let a = c.args in
-    let inputs = c.inputs.ensures ∙ ap sheet_inputs c.in-Ok.ensures.1 in
-    answer_accepted a.sheet.now a.state a.out.now c.in-Ok.ensures.0 (c.decode.ensures ∙ ap (λ (f : FrameInputs). result_of (accepted_trace (Ok tt) f a.state)) inputs) c.copy_from_slice.ensures.after
+    let prepared = c.inputs.ensures ∙ ap (λ (sheet : List ℤ). frame_prepared sheet a.state.concealment) c.in-Ok.ensures.1 in
+    answer_accepted a.sheet.now a.state a.out.now c.in-Ok.ensures.0 prepared c.decode.ensures c.copy_from_slice.ensures.after
 
 pub returns-in-Err : goal.returns-in-Err
 returns-in-Err c = let a = c.args in answer_refused a.sheet.now a.state a.out.now c.in-Err.ensures c.refused.ensures

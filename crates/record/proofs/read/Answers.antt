@@ -1,15 +1,15 @@
 -- `read` meets its contract: the state that was read and what stands before it, or the refusal and nothing.
-use mathlib.Core.Path.{refl, ap}
+use mathlib.Core.Path.{refl, sym}
 use native.Mathlib.Omega.{arith}
-use Rattle.outcome.specs.Outcome.{is_accepted}
-use Rattle.record.proofs.Reader.{length_accepted, read_accepted, read_refused}
+use lib.Seq.{length-take-le}
+use Rattle.record.proofs.Reader.{read_accepted, read_refused}
 use Rattle.record.proofs.read.Goals as goal
 
-pub slice_bounds-result-count : goal.slice_bounds-result-count
-slice_bounds-result-count c = let long = length_accepted c.args.bytes.now (ap is_accepted c.in-Ok.ensures.0) in omega (arith, long)
+pub slice_bounds-result-end : goal.slice_bounds-result-end
+slice_bounds-result-end c = sym (length-take-le c.in-Ok.found.note_length c.args.bytes.now (omega (arith, c.in-Ok.ensures.1.1)))
 
 pub returns-in-Ok : goal.returns-in-Ok
-returns-in-Ok c = (read_accepted c.args.bytes.now c.in-Ok.ensures.0 c.in-Ok.ensures.1, refl)
+returns-in-Ok c = let f = c.in-Ok.ensures in (read_accepted c.args.bytes.now f.0 f.1.0 f.1.1, refl)
 
 pub returns-in-Err : goal.returns-in-Err
 returns-in-Err c = (read_refused c.args.bytes.now c.in-Err.ensures c.refused.ensures, refl)

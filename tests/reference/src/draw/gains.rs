@@ -1,11 +1,11 @@
 //! Tables, energies and innovation for gains from their index, and the inputs of the files of them.
 
 use super::{
-    Calls, Chosen, JUST_BELOW, Loudness, Records, closest, extreme_state, innovation, kept, level,
-    numbers, pitch, signal, spread, state, within,
+    Calls, Chosen, JUST_BELOW, Loudness, Records, closest, erased, extreme_state, innovation, kept,
+    level, numbers, pitch, signal, spread, within,
 };
 use crate::{
-    FRAME, INDEX_SHEET, LSFS, STATE, SUBFRAME, SUBFRAMES,
+    FRAME, INDEX_SHEET, LSFS, STATE, SUBFRAME, SUBFRAMES, ZEROS, at,
     files::{File, SHEET_AREA, gains::TABLE_AREA},
     frame,
     gain::{ENERGIES, OPENING, TABLE},
@@ -239,20 +239,22 @@ fn step(
 pub fn frame_indexed(file: &File, random: &mut Random) -> Records {
     let mut chosen = Chosen::new(file);
     // The frame of the values.
-    let mut state = [0; STATE];
+    let mut state = ZEROS;
     let mut energies = OPENING;
     let standard = tables::standard();
     let sheet = values::index_sheet().to_vec();
     chosen.put(step(sheet, &mut state, &standard, &mut energies));
-    // As speech has it, from the all-zero state, by the standard's tables; then by drawn ones.
-    (state, energies) = ([0; STATE], OPENING);
+    // As speech has it, from the state of zeros, by the standard's tables; then by drawn ones.
+    (state, energies) = (ZEROS, OPENING);
     for number in 0..14 {
         let pair = if number < 8 { standard } else { tables(random) };
         let lsf = spread(random);
         let sheet = index_sheet(random, lsf, Loudness::Speech);
         chosen.put(step(sheet, &mut state, &pair, &mut energies));
     }
-    let any = |random: &mut Random| {
+    // What is handed on and not used, from numbers of their own: no mark is set.
+    let mut fields = Random::new(1000 + file.seed);
+    let mut any = |random: &mut Random| {
         let sheet = accepted(random);
         let limit = level(random);
         let state = if random.once_in(4) {
@@ -260,7 +262,9 @@ pub fn frame_indexed(file: &File, random: &mut Random) -> Records {
         } else {
             super::state(random, limit)
         };
-        let mut state = state.try_into().expect("a state has 197 numbers");
+        let mut state: [i16; STATE] = state.try_into().expect("a state has 213 numbers");
+        erased::put_fields(&mut state, &mut fields);
+        state[at::ERASED] = 0;
         let pair = tables(random);
         let mut energies = self::energies(random);
         step(sheet, &mut state, &pair, &mut energies)
@@ -276,7 +280,7 @@ pub fn frame_indexed(file: &File, random: &mut Random) -> Records {
 
 /// The index sheet's refused calls.
 pub const CALLS: Calls = Calls {
-    order: &[1, 5, 2, 6, 3, 7, 8, 16, 17],
+    order: &[1, 5, 2, 6, 3, 7, 8, 16, 17, 18, 19],
     numbers: INDEX_SHEET,
     sheet: 4,
 };
@@ -285,7 +289,7 @@ pub fn refused_indexed(_: &File, random: &mut Random) -> Records {
     let mut records = Records::new();
     for spoils in CALLS.spoiled(
         &[
-            (1, 6),
+            (1, 7),
             (5, 5),
             (2, 10),
             (6, 10),
@@ -294,6 +298,8 @@ pub fn refused_indexed(_: &File, random: &mut Random) -> Records {
             (8, 8),
             (16, 4),
             (17, 2),
+            (18, erased::FIELD_WAYS),
+            (19, 6),
         ],
         &[
             (2, [3, 7]),
@@ -301,6 +307,7 @@ pub fn refused_indexed(_: &File, random: &mut Random) -> Records {
             (3, [1, 3]),
             (7, [0, 1]),
             (8, [1, 3]),
+            (18, [4, 12]),
         ],
     ) {
         let lsf = kept(random);
@@ -309,7 +316,7 @@ pub fn refused_indexed(_: &File, random: &mut Random) -> Records {
             .to_vec();
         record.extend(index_sheet(random, lsf, Loudness::Speech));
         record.resize(4 + SHEET_AREA, 0);
-        record.extend(state(random, 3000));
+        record.extend(erased::state(random, 3000));
         for table in tables(random) {
             record.extend(table);
             record.resize(record.len() + TABLE_AREA - TABLE, 0);

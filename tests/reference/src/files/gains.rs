@@ -1,9 +1,9 @@
 //! The recorded files of gains from their index: the call of an index, and the frame call of an index
 //! sheet.
 
-use super::{File, Kind, SHEET_AREA, mark_extremes, mark_gaps, ones, refused_kinds, words};
+use super::{File, Kind, SHEET_AREA, mark_extremes, ones, refused_kinds, words};
 use crate::{
-    FRAME, INDEX_SHEET, LSFS, NOWHERE, ROW, STATE, SUBFRAME, SUBFRAMES,
+    FRAME, INDEX_SHEET, NOWHERE, ROW, STATE, SUBFRAME, SUBFRAMES, ZEROS,
     draw::gains as draw,
     frame,
     gain::{self, ENERGIES, OPENING, TABLE, Tables},
@@ -163,14 +163,14 @@ pub const FRAME_INDEXED: File = File {
     },
     model: |trace, input| {
         let (sheet, state, tables, energies) = frame_input(input);
-        trace.mark_if(state == [0; STATE], "all-zero state");
+        trace.mark_if(state == ZEROS, "state of zeros");
         mark_tables(trace, &tables);
         mark_energies(trace, &energies);
         model::frame_indexed(trace, &sheet, &state, &tables, &energies)
     },
     kinds: || {
         let mut kinds = ones(&[
-            "all-zero state",
+            "state of zeros",
             "innovation sharpened",
             "sharpened innovation clamped",
             "sharpening 13017",
@@ -219,16 +219,8 @@ pub const REFUSED_INDEXED: File = File {
     model: |trace, input| {
         let mut out = vec![0; input[1] as usize];
         let answer = refused_frame(input, &mut out).frame;
-        trace.number("refusal", answer.refusal);
+        draw::CALLS.mark(trace, input, (answer.refusal, answer.place));
         match answer.refusal {
-            1 => trace.number("refusal 1: length", input[0]),
-            2 => trace.number("refusal 2: place", answer.place),
-            3 => trace.number("refusal 3: place", answer.place),
-            5 => trace.number("refusal 5: length", input[1]),
-            6 => {
-                trace.number("refusal 6: place", answer.place);
-                mark_gaps(trace, &input[4..4 + LSFS]);
-            }
             7 => {
                 trace.number("refusal 7: place", answer.place);
                 let Tables { logs, pows } = lent(&input[2..], &input[4 + SHEET_AREA + STATE..]);
@@ -237,17 +229,12 @@ pub const REFUSED_INDEXED: File = File {
             8 => trace.number("refusal 8: place", answer.place),
             _ => {}
         }
-        for later in draw::CALLS.refusals(input) {
-            if later != answer.refusal {
-                trace.number("refusal before a later one", 100 * answer.refusal + later);
-            }
-        }
         vec![answer.refusal, answer.place]
     },
     kinds: || {
         let mut kinds = refused_kinds(&draw::CALLS);
         kinds.extend([
-            Kind::Each("refusal 1: length", vec![0, 1, 177, 179, 180, 182]),
+            Kind::Each("refusal 1: length", vec![0, 1, 171, 177, 179, 180, 182]),
             Kind::Each("refusal 7: place", vec![0, 1]),
             Kind::Each("refusal 8: place", (0..4).collect()),
         ]);
@@ -295,7 +282,7 @@ fn refused_gain(input: &[i16]) -> gain::Answer {
     gain::decode(input[0], &[0; SUBFRAME], tables, &energies)
 }
 
-fn refused_frame(input: &[i16], out: &mut [i16]) -> frame::IndexedAnswer {
+fn refused_frame(input: &[i16], out: &mut [i16]) -> frame::EnergyAnswer {
     let sheet = &input[4..4 + input[0] as usize];
     let state = part(input, 4 + SHEET_AREA);
     let rooms = 4 + SHEET_AREA + STATE;
@@ -321,7 +308,7 @@ fn mark_tables(trace: &mut Trace, tables: &Pair) {
     }
 }
 
-fn mark_energies(trace: &mut Trace, energies: &[i16; ENERGIES]) {
+pub fn mark_energies(trace: &mut Trace, energies: &[i16; ENERGIES]) {
     trace.mark_if(*energies == OPENING, "opening energies");
     let both = energies.contains(&-32768) && energies.contains(&32767);
     trace.mark_if(both, "energies -32768 and 32767");

@@ -4,6 +4,7 @@
 use super::{
     PARAMETER_COUNT, Parameters,
     decoder::Decoder,
+    frame_loss::SpeechQuality,
     gain::GainDecoder,
     sheet, state,
     tables::{self, Pair},
@@ -61,7 +62,7 @@ fn ready(
     (decoder, parameters)
 }
 
-/// The gains of the four subframes.
+/// The gains that the four subframes are decoded with.
 pub fn frame_gains(
     sheet: &[i16; INDEX_SHEET],
     state: &[i16; STATE],
@@ -82,6 +83,7 @@ pub fn decode(
 ) -> (Decoded, [i16; ENERGIES]) {
     let (mut decoder, parameters) = ready(sheet, state, tables, energies);
     let mut postfilter = state::postfilter(&part(state, at::MEMORY));
-    let decoded = state::decoded(&mut decoder, &mut postfilter, &parameters);
+    let quality = SpeechQuality::Good;
+    let decoded = state::decoded(&mut decoder, &mut postfilter, &parameters, quality);
     (decoded, decoder.excitation.gains.energies_q10)
 }

@@ -2,10 +2,13 @@
 //! an index sheet. The table of gains is read off the reference's answers.
 
 use super::{
-    Fault, Trace, clamp32, frame, l_mult, l_shl, lag_absolute, lag_relative, sharpen, wide,
+    Fault, Trace, clamp32,
+    concealment::Concealment,
+    frame::{frame, lags},
+    l_mult, l_shl, sharpen, wide,
 };
 use crate::{
-    INDEX_SHEET, SUBFRAME, SUBFRAMES, at,
+    INDEX_SHEET, SUBFRAME, at,
     gain::{ENERGIES, TABLE},
     lent::{
         stages::{self, Gains},
@@ -261,24 +264,20 @@ pub fn gains(
 }
 
 /// The frame sheet of the gains that an index sheet's indices come to, and the energies afterwards:
-/// each subframe's gains come from its own innovation, sharpened by the gains of the one before.
+/// each subframe's gains come from its own innovation, sharpened by the gains that the one before was
+/// decoded with.
 fn frame_sheet(
     trace: &mut Trace,
     sheet: &[i16; INDEX_SHEET],
-    sharpening: i16,
+    state: &[i16],
     tables: &Pair,
     mut energies: [i16; ENERGIES],
 ) -> (Vec<i16>, [i16; ENERGIES]) {
     let mut numbers = sheet[..at::GAINS].to_vec();
-    let mut sharpening = sharpening;
-    let mut lag = 0;
-    for subframe in 0..SUBFRAMES {
-        let pitch = sheet[at::PITCH + subframe];
-        lag = if subframe.is_multiple_of(2) {
-            lag_absolute(trace, pitch).0
-        } else {
-            lag_relative(trace, pitch, lag).0
-        };
+    let mut sharpening = state[at::SHARPENING];
+    let mut concealment = Concealment::of(state);
+    let lags = lags(trace, &sheet[at::PITCH..at::GAINS]);
+    for (subframe, lag) in lags.into_iter().enumerate() {
         let index = sheet[at::GAINS + subframe];
         let used = match trace.fault {
             Some(Fault::GainsUnsharpened) => 0,
@@ -286,11 +285,17 @@ fn frame_sheet(
             _ => sharpening,
         };
         let mut innovation = part(sheet, at::INDEXED_INNOVATION + SUBFRAME * subframe);
-        sharpen(trace, &mut innovation, lag, used);
+        sharpen(trace, &mut innovation, lag.0, used);
         let gains;
         (gains, energies) = self::gains(trace, index, &innovation, tables, &energies);
+        let decoded = concealment.good(trace, subframe, gains);
+        let [pitch, _] = if trace.has(Fault::GainsSharpenedUnheld) {
+            gains
+        } else {
+            decoded
+        };
         let held = !trace.has(Fault::GainsSharpeningNotHeld);
-        sharpening = gains[0].min(if held { 13017 } else { i16::MAX });
+        sharpening = pitch.min(if held { 13017 } else { i16::MAX });
         numbers.extend(gains);
     }
     numbers.extend(&sheet[at::INDEXED_INNOVATION..]);
@@ -305,8 +310,7 @@ pub fn frame_indexed(
     tables: &Pair,
     energies: &[i16; ENERGIES],
 ) -> Vec<i16> {
-    let sharpening = state[at::SHARPENING];
-    let (numbers, after) = frame_sheet(trace, sheet, sharpening, tables, *energies);
+    let (numbers, after) = frame_sheet(trace, sheet, state, tables, *energies);
     let mut answer = frame(trace, &numbers, state);
     answer.extend(after);
     answer

@@ -2,9 +2,9 @@
 #![warn(unused, clippy::all)]
 
 use super::{
-    PARAMETER_COUNT, Parameters, adaptive, energy, energy::GainControl, lpc, lpc::LpcDecoder,
-    pitch::Fraction, pitch::PitchLag, places, sheet, spectral, spectral::Spectrum, state,
-    synthesis::SynthesisFilter,
+    PARAMETER_COUNT, Parameters, adaptive, energy, energy::GainControl, frame_loss::SpeechQuality,
+    lpc, lpc::LpcDecoder, pitch::Fraction, pitch::PitchLag, places, sheet, spectral,
+    spectral::Spectrum, state, synthesis::SynthesisFilter,
 };
 use crate::{FRAME, LSFS, MEMORY, PAST, ROW, SHEET, STATE, SUBFRAME, SUBFRAMES, at, part};
 
@@ -51,11 +51,11 @@ pub fn rounded_coefficient(value: i32) -> i16 {
 /// A lag in samples and the thirds beside it, -1, 0 or 1.
 pub type Lag = (i16, i16);
 
-fn lag(lag: PitchLag) -> Lag {
+pub fn lag(lag: PitchLag) -> Lag {
     (lag.samples() as i16, lag.fraction().thirds())
 }
 
-fn pitch_lag((samples, thirds): Lag) -> PitchLag {
+pub fn pitch_lag((samples, thirds): Lag) -> PitchLag {
     let fraction = match thirds {
         -1 => Fraction::MinusThird,
         0 => Fraction::Zero,
@@ -176,5 +176,11 @@ pub fn decode(sheet: &[i16; SHEET], state: &[i16; STATE]) -> Decoded {
     sheet::set(sheet);
 
     let mut postfilter = state::postfilter(&part(state, at::MEMORY));
-    state::decoded(&mut state::decoder(state), &mut postfilter, &parameters)
+    let quality = SpeechQuality::Good;
+    state::decoded(
+        &mut state::decoder(state),
+        &mut postfilter,
+        &parameters,
+        quality,
+    )
 }

@@ -2,10 +2,11 @@
 
 use super::{Programs, bytes_of, compare, negative_input, process::Program, record_of, sheet};
 use crate::{
-    LSFS, SHEET, STATE, at,
+    LSFS, SHEET, ZEROS, at,
     examples::lowered,
     random::Random,
-    record, report,
+    record::first,
+    report,
     sheets::{self, Frame},
     tally::Tally,
     values,
@@ -13,7 +14,7 @@ use crate::{
 use std::{fs, path::Path};
 
 fn zero_record() -> Vec<u8> {
-    record_of(&[0; STATE])
+    record_of(&ZEROS)
 }
 
 /// LSFs apart, and nothing else.
@@ -124,7 +125,7 @@ impl Files<'_> {
         let name = "two sheets that keep the gap, and five refused ones";
         self.told(name, &gaps, "2 5 0 0 0\n", gaps.len());
         let mut bad = [&record, loud].concat();
-        bad[record::BODY] ^= 1;
+        bad[first::BODY] ^= 1;
         let name = "a refused record before a sheet";
         self.told(name, &bad, "state refused 12\n", record.len());
     }

@@ -1,4 +1,5 @@
-//! Stub: a call without losses. Every frame is good and none before it was erased.
+//! Stub: whether the frame before was erased, and the attenuation stage of an erased frame, are set
+//! from outside. A frame leaves whether it was erased itself.
 use super::gain_concealment::AttenuationStage;
 
 #[derive(Debug, Clone, Copy, PartialEq, Eq)]
@@ -13,14 +14,18 @@ pub struct Loss {
 }
 
 #[derive(Debug, Clone, Default, PartialEq, Eq)]
-pub struct SpeechLossState;
+pub struct SpeechLossState {
+    pub erased: bool,
+    pub stage: u8,
+}
 
 impl SpeechLossState {
     pub fn advance(&mut self, quality: SpeechQuality) -> Loss {
-        assert_eq!(quality, SpeechQuality::Good, "only good frames are decoded");
+        let previous_frame_erased = self.erased;
+        self.erased = quality == SpeechQuality::Erased;
         Loss {
-            previous_frame_erased: false,
-            attenuation: AttenuationStage::try_new(0).expect("stage 0 exists"),
+            previous_frame_erased,
+            attenuation: AttenuationStage::try_new(self.stage).expect("the stage was tested"),
         }
     }
 

@@ -4,7 +4,7 @@ use mir.Facts.{to_z-of_z}
 use Rattle.coding.specs.Bytes.{words}
 use Rattle.capi.specs.Indexed.{table_in}
 use Rattle.capi.proofs.Codes.{gain_place}
-use Rattle.capi.proofs.IndexedCalls.{innovation_unfit, decode_energies_unfit, gains_unfit, gain_given}
+use Rattle.capi.proofs.GainCalls.{innovation_unfit, decode_energies_unfit, gains_unfit, gain_given}
 use Rattle.capi.proofs.gains.mr74_gain_decode.Goals as goal
 
 pub returns-in_default : goal.returns-in_default

@@ -1,0 +1,4 @@
+pub mod Median
+pub mod Concealment
+pub mod Formed
+pub mod Laws

@@ -1,0 +1,18 @@
+-- gmed_n of TS 26.073: of five numbers the third in order. The theorems are `sorted_kept` and `median_of_any`, in proofs/Sorting.antt.
+use Rattle.std.specs.Prelude.{cond, List, [], ◌∷◌, ℤ}
+use Rattle.std.specs.Int.Signed.{lt_z}
+use Rattle.lists.specs.Lists.{at}
+
+-- a number put in its place of a list in order
+unfoldable pub inserted : ℤ → List ℤ → List ℤ
+inserted x [] = x ∷ []
+inserted x (y ∷ ys) = cond (lt_z y x) (y ∷ inserted x ys) (x ∷ y ∷ ys)
+
+-- the numbers in order, the least first
+unfoldable pub sorted : List ℤ → List ℤ
+sorted [] = []
+sorted (x ∷ xs) = inserted x (sorted xs)
+
+-- "The median is the third of the five in order"
+abbrev pub median : List ℤ → ℤ
+median xs = at (sorted xs) 2

@@ -1,0 +1,111 @@
+// The gains of erased frames, and of a good frame after one: ec_gain_pitch and ec_gain_code of TS 26.073, and their updates.
+#![tactic(auto)]
+
+ghost use Rattle.std.specs.Prelude.{◌≡◌, ◌<◌, pos};
+ghost use Rattle.gain_concealment.specs.Median.{median};
+ghost use Rattle.gain_concealment.specs.Concealment.{concealed_gains, held_pair, updated, good_gains};
+
+mod tables;
+
+use basicop::{Q1, Q14, mult};
+use tables::{code_down, pitch_down};
+
+// Pitch gain and code gain of a subframe.
+#[derive(Clone, Copy)]
+pub struct GainPair {
+    pub pitch: Q14,
+    pub code: Q1,
+}
+
+// What goes from subframe to subframe, a good one or an erased one.
+#[derive(Clone, Copy)]
+pub struct GainConcealment {
+    // of the last five subframes, oldest first
+    pub pitch_history: [i16; 5],
+    pub code_history: [i16; 5],
+    // of the last subframe
+    pub past: GainPair,
+    // of the last subframe of a good frame
+    pub last_good: GainPair,
+}
+
+// The gains that a subframe is decoded with, and what goes on to the next.
+#[derive(Clone, Copy)]
+pub struct UsedGains {
+    pub gains: GainPair,
+    pub next: GainConcealment,
+}
+
+// The third of five numbers in order.
+fn median(numbers: [i16; 5]) -> i16
+    ensures { result ≡ median numbers }
+{
+    let [a, b, c, d, e] = numbers;
+    // low and high, in either order: the middle two of the first four. The third of all is the middle one of these and e.
+    let low = a.min(b).max(c.min(d));
+    let high = a.max(b).min(c.max(d));
+    low.min(high).max(low.max(high).min(e))
+}
+
+impl GainConcealment {
+    // The gains of a subframe become the past gains and enter the fives; the pitch gain is held to 16384 in both.
+    fn update(self, gains: GainPair) -> Self
+        ensures { result ≡ updated gains self }
+    {
+        let [_, b, c, d, e] = self.pitch_history;
+        let [_, q, r, s, t] = self.code_history;
+        let pitch = Q14(gains.pitch.0.min(16384));
+        GainConcealment {
+            pitch_history: [b, c, d, e, pitch.0],
+            code_history: [q, r, s, t, gains.code.0],
+            past: GainPair {
+                pitch,
+                code: gains.code,
+            },
+            last_good: self.last_good,
+        }
+    }
+
+    // A subframe of an erased frame: medians held to the past gains, then scaled by the attenuation stage.
+    pub fn conceal(self, stage: usize) -> UsedGains
+        requires { stage < 7 }
+        ensures { result ≡ concealed_gains (pos stage) self }
+    {
+        let pitch = median(self.pitch_history).min(self.past.pitch.0);
+        let code = median(self.code_history).min(self.past.code.0);
+        let gains = GainPair {
+            pitch: Q14(mult(pitch, pitch_down(stage))),
+            code: Q1(mult(code, code_down(stage))),
+        };
+        UsedGains {
+            gains,
+            next: self.update(gains),
+        }
+    }
+
+    // A subframe of a good frame: after an erased frame each of its gains is at most that of the last good subframe; then they become those.
+    pub fn update_good(self, gains: GainPair, erased: bool) -> UsedGains
+        ensures { result ≡ good_gains erased gains self }
+    {
+        let held = if erased {
+            hold(gains, self.last_good)
+        } else {
+            gains
+        };
+        let next = GainConcealment {
+            last_good: held,
+            ..self.update(held)
+        };
+        UsedGains { gains: held, next }
+    }
+}
+
+// Each gain at most that of the other pair.
+fn hold(gains: GainPair, limits: GainPair) -> GainPair
+    ensures { result ≡ held_pair limits gains }
+{
+    GainPair {
+        pitch: Q14(gains.pitch.0.min(limits.pitch.0)),
+        code: Q1(gains.code.0.min(limits.code.0)),
+    }
+}

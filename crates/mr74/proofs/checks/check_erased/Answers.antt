@@ -1,0 +1,19 @@
+-- `check_erased` meets its contract: a sheet that its length or its own checks turn back is turned back.
+use mathlib.Core.Path.{sym}
+use Rattle.std.proofs.lemmas.Result.{err_from_is_err_and}
+use Rattle.mr74.specs.Checks.{erased_sheet_checks}
+use Rattle.mr74.proofs.Order.{lengths_refuse, sheet_refuses}
+use Rattle.mr74.proofs.checks.check_erased.Goals as goal
+
+pub returns-in_err-numbers : goal.returns-in_err-numbers
+returns-in_err-numbers c =
+    let a = c.args in
+    let p = err_from_is_err_and c.from_residual.result c.from_residual.ensures.1 in
+    rw (p.1, p.2) (lengths_refuse 171 erased_sheet_checks a.sheet.now a.state a.room c.in_err-numbers.ensures)
+
+pub returns-in_err-check_erased_sheet : goal.returns-in_err-check_erased_sheet
+returns-in_err-check_erased_sheet c =
+    let a = c.args in
+    let k = c.in_ok-numbers.ensures in
+    let p = err_from_is_err_and c.from_residual-in_err-check_erased_sheet.result c.from_residual-in_err-check_erased_sheet.ensures.1 in
+    rw (p.1, p.2) (sheet_refuses 171 erased_sheet_checks a.sheet.now a.state a.room (sym c.in_err-check_erased_sheet.ensures) k.0 k.1)
