@@ -1,9 +1,5 @@
--- Phase and start of a lag in ℕ, and the places that a prediction reads. Assumes nothing.
-use mathlib.Core.Path.{◌≡◌, refl, sym, ap, ◌∙◌}
-use Prim.Native.Nat.{ℕ, ◌+◌, ◌-◌, ◌*◌, ◌<◌, ◌≤◌}
-use native.Mathlib.Omega.{arith}
-use lib.Dec.{lit<, lit≤}
-use lib.IntN.{ℤ, pos, ◌-ℤ◌}
+-- Phase and start of a lag in ℕ, and the places that a prediction reads.
+use Rattle.std.proofs.Common.{◌≡◌, refl, sym, ap, ◌∙◌, ℕ, ◌+◌, ◌-◌, ◌*◌, ◌<◌, ◌≤◌, arith, lit<, lit≤, ℤ, pos, ◌-ℤ◌}
 use Rattle.basicop.specs.Ops.{clamp, add, sub, shl}
 use Rattle.basicop.proofs.Naturals.{minus}
 use Rattle.pitch.specs.Lag.{thirds_of, lag_of}

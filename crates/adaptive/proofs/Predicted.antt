@@ -1,8 +1,5 @@
--- A prediction from 154 past samples has forty. Assumes nothing.
-use mathlib.Core.Path.{◌≡◌, ◌∙◌}
-use mathlib.Core.List.{List}
-use lib.IntN.{ℤ}
-use lib.ListN.{length, length-drop}
+-- A prediction from 154 past samples has forty.
+use Rattle.std.proofs.Common.{◌≡◌, ◌∙◌, List, ℤ, length, length-drop}
 use Rattle.pitch.specs.Lag.{Lag}
 use Rattle.adaptive.specs.Predict.{phase, start, sample_at, extended, predicted}
 use Rattle.lists.proofs.Grow.{length_grow}

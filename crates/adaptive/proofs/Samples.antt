@@ -1,11 +1,5 @@
--- What a sample is made of, by places from 0 on, as the code has them. Assumes nothing.
-use mathlib.Core.Path.{◌≡◌, ◌∙◌}
-use mathlib.Core.List.{List}
-use Prim.Native.Nat.{ℕ, ◌+◌, ◌-◌, ◌<◌, ◌≤◌}
-use native.Mathlib.Omega.{arith}
-use lib.IntN.{ℤ, pos}
-use lib.ListN.{take}
-use lib.Seq.{get_or-take}
+-- What a sample is made of, by places from 0 on, as the code has them.
+use Rattle.std.proofs.Common.{◌≡◌, ◌∙◌, List, ℕ, ◌+◌, ◌-◌, ◌<◌, ◌≤◌, arith, ℤ, pos, take, get_or-take}
 use Rattle.lists.specs.Lists.{at}
 use Rattle.basicop.specs.Ops.{l_mac}
 use Rattle.basicop.proofs.Naturals.{minus}

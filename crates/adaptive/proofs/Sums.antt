@@ -1,12 +1,5 @@
--- Sums that no L_mac clamps, of numbers that are not large by coefficients whose sizes come to less than 65536. Assumes nothing.
-use mathlib.Core.Path.{◌≡◌, ap, ◌∙◌}
-use mathlib.Core.Bool.{Bool, true}
-use mathlib.Core.List.{List}
-use Prim.Native.Nat.{ℕ, suc, ◌+◌, ◌-◌, ◌*◌, ◌<◌, ◌≤◌}
-use native.Mathlib.Nat.{le_refl}
-use native.Mathlib.Numerals.{add-one}
-use native.Mathlib.Omega.{arith}
-use lib.IntN.{ℤ, pos, nat_abs, ◌*ℤ◌}
+-- Sums that no L_mac clamps, of numbers that are not large by coefficients whose sizes come to less than 65536.
+use Rattle.std.proofs.Common.{◌≡◌, ap, ◌∙◌, Bool, true, List, ℕ, suc, ◌+◌, ◌-◌, ◌*◌, ◌<◌, ◌≤◌, le_refl, add-one, arith, ℤ, pos, nat_abs, ◌*ℤ◌}
 use Rattle.lists.specs.Lists.{at}
 use Rattle.lists.proofs.Count.{Iter, iter_none, iter_more}
 use Rattle.basicop.specs.Ops.{l_mac}

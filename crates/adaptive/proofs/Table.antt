@@ -1,14 +1,6 @@
--- The interpolation table: its length, and its rule by one test of every entry that antt computes. Assumes nothing.
-use mathlib.Core.Path.{◌≡◌, refl}
-use mathlib.Core.Bool.{Bool, not, ◌&&◌, ◌||◌}
-use Prim.Native.Nat.{ℕ, ◌%◌, ◌<◌, ◌≤◌}
-use borrow.Author.Tests.{eq-eqb, lt-leb}
-use lib.Dec.{T, leb, eqb, leb→le}
-use native.Mathlib.Omega.{arith}
-use lib.IntN.{ℤ, pos, negsuc, nat_abs}
-use lib.ListN.{length}
-use mir.Syntax.{w16}
-use mir.Val.{SFits}
+-- The interpolation table: its length, and its rule by one test of every entry that antt computes.
+use Rattle.std.proofs.Common.{◌≡◌, refl, Bool, not, ◌&&◌, ◌||◌, ℕ, ◌%◌, ◌<◌, ◌≤◌, eq-eqb, T, leb, eqb, leb→le, arith, ℤ, pos, negsuc, nat_abs, length, w16, SFits}
+use borrow.Author.Tests.{lt-leb}
 use Rattle.lists.specs.Lists.{at, eq_z}
 use Rattle.lists.proofs.Table.{both_pass, at_each, eq_z→eq}
 use Rattle.adaptive.specs.Predict.{inter6}

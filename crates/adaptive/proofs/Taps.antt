@@ -1,12 +1,5 @@
--- The taps of a phase, in the order of the samples. Assumes nothing.
-use mathlib.Core.Path.{◌≡◌, refl}
-use mathlib.Core.Bool.{Bool}
-use mathlib.Core.List.{List, []}
-use Prim.Native.Nat.{ℕ, ◌+◌, ◌-◌, ◌*◌, ◌/◌, ◌<◌, ◌≤◌}
-use borrow.Author.Tests.{lt-ltb, le-ltb}
-use lib.Dec.{T, lit<}
-use lib.IntN.{ℤ, pos, ◌-ℤ◌}
-use lib.ListN.{get_or}
+-- The taps of a phase, in the order of the samples.
+use Rattle.std.proofs.Common.{◌≡◌, refl, Bool, List, [], ℕ, ◌+◌, ◌-◌, ◌*◌, ◌/◌, ◌<◌, ◌≤◌, lt-ltb, le-ltb, T, lit<, ℤ, pos, ◌-ℤ◌, get_or}
 use Rattle.lists.specs.Lists.{at, eq_z, tab}
 use Rattle.lists.proofs.Table.{all_below, below_each, eq_z→eq}
 use Rattle.basicop.specs.Inner.{sizes}

@@ -1,14 +1,8 @@
--- Numbers that are not large, and the test of a list that grows. Assumes nothing.
-use mathlib.Core.Path.{◌≡◌, refl, sym, ap, ◌∙◌}
-use mathlib.Core.Bool.{Bool, true, false, not, ◌&&◌}
-use mathlib.Core.List.{List, [], ◌∷◌, foldl, foldl-append}
-use Prim.Native.Nat.{ℕ, zero, suc, ◌-◌, ◌<◌, ◌≤◌}
-use native.Mathlib.Omega.{arith}
+-- Numbers that are not large, and the test of a list that grows.
+use Rattle.std.proofs.Common.{◌≡◌, refl, sym, ap, ◌∙◌, Bool, true, false, not, ◌&&◌, List, [], ◌∷◌, ℕ, zero, suc, ◌-◌, ◌<◌, ◌≤◌, arith, ℤ, pos, negsuc, nat_abs, length, set, take, take-suc-set, get_or-take, ◌≤ℤ◌}
+use mathlib.Core.List.{foldl, foldl-append}
 use borrow.Author.Tests.{not-true}
-use lib.IntN.{ℤ, pos, negsuc, nat_abs}
-use lib.ListN.{length, set, take}
-use lib.Seq.{take-suc-set, get_or-take}
-use lib.Signed.{◌≤ℤ◌, lt_z}
+use lib.Signed.{lt_z}
 use Rattle.lists.specs.Lists.{minus, at}
 use Rattle.basicop.proofs.Ints.{arith_ℤ}
 use Rattle.std.proofs.lemmas.Bool.{and_parts, or_parts}

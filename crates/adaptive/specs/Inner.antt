@@ -1,6 +1,6 @@
 -- For inner functions: what the code's plain sums rest on: taps in the order of the samples, the sizes of a phase's taps, and which numbers are large.
 -- The taps of a light phase over numbers that are not large come to at most 2 × 16384 × 65535, which is below 2 ^ 31: no L_mac clamps.
-use Rattle.std.specs.Prelude.{◌≡◌, Bool, true, false, cond, not, ◌&&◌, ◌||◌, ℕ, ◌+◌, ◌-◌, ◌<◌, ltb, ℤ, pos, ◌-ℤ◌}
+use Rattle.std.specs.Prelude.{◌≡◌, Bool, true, false, if◌then◌else◌, not, ◌&&◌, ◌||◌, ℕ, ◌+◌, ◌-◌, ◌<◌, nat_lt, ℤ, pos, ◌-ℤ◌}
 use mathlib.Core.List.{List, [], ◌∷◌, foldl}
 use Rattle.std.specs.Int.Signed.{lt_z}
 use Rattle.lists.specs.Lists.{minus, at, tab}
@@ -9,7 +9,7 @@ use Rattle.adaptive.specs.Predict.{coefficient}
 
 -- tap j of phase f: ten to the left, from the furthest on, and ten to the right
 abbrev pub tap : ℕ → ℕ → ℤ
-tap f j = cond (ltb j 10) (coefficient (pos f) (9 - j)) (coefficient (pos 6 -ℤ pos f) (j - 10))
+tap f j = if nat_lt j 10 then coefficient (pos f) (9 - j) else coefficient (pos 6 -ℤ pos f) (j - 10)
 
 -- all twenty
 abbrev pub phase_taps : ℕ → List ℤ

@@ -1,5 +1,5 @@
 -- Pred_lt_3or6 of TS 26.073, in thirds (TS 26.090, 6.1): the adaptive codebook's forty samples from the 154 past excitations, oldest first.
-use Rattle.std.specs.Prelude.{Bool, cond, List, [], ◌∷◌, ℕ, ◌*◌, ℤ, pos, ◌+ℤ◌, ◌-ℤ◌, drop}
+use Rattle.std.specs.Prelude.{Bool, if◌then◌else◌, List, [], ◌∷◌, ℕ, ◌*◌, ℤ, pos, ◌+ℤ◌, ◌-ℤ◌, drop}
 use Rattle.std.specs.Int.Signed.{lt_z}
 use Rattle.lists.specs.Lists.{minus, entry, iter, grow}
 use Rattle.basicop.specs.Ops.{add, sub, shl, l_mac, round}
@@ -25,11 +25,11 @@ abbrev pub back : Lag → Bool
 back l = lt_z (sixths l) (pos 0)
 
 unfoldable pub phase : Lag → ℤ
-phase l = cond (back l) (add (sixths l) (pos 6)) (sixths l)
+phase l = if back l then add (sixths l) (pos 6) else sixths l
 
 -- the place of the first sample to the left, among 154 past excitations
 unfoldable pub start : Lag → ℤ
-start l = cond (back l) ((pos 154 -ℤ l.samples) -ℤ pos 1) (pos 154 -ℤ l.samples)
+start l = if back l then (pos 154 -ℤ l.samples) -ℤ pos 1 else pos 154 -ℤ l.samples
 
 -- coefficient i of one side of the filter: every sixth one of the table, from f on
 abbrev pub coefficient : ℤ → ℕ → ℤ

@@ -1,6 +1,5 @@
--- The laws of lists of calls at the calls of specs/Examples.antt, with the premises that `example` gives. Assumes nothing.
-use mathlib.Core.Path.{refl, ap}
-use mathlib.Core.List.{[], ◌∷◌}
+-- The laws of lists of calls at the calls of specs/Examples.antt, with the premises that `example` gives.
+use Rattle.std.proofs.Common.{refl, ap, [], ◌∷◌}
 use Rattle.mr74.specs.Frame.{Trace}
 use Rattle.basicop.proofs.Words.{zero_fits}
 use Rattle.calls.specs.Calls.{accepted, SheetFits}

@@ -1,11 +1,6 @@
 -- `refused_unchanged`, `indexed_unchanged`, `erased_unchanged` and `gain_unchanged` at calls over bytes: the returned numbers, and the places of one, are computed, and the calls stay
--- shut where the theorem is applied. Assumes nothing.
-use mathlib.Core.Path.{◌≡◌, refl}
-use mathlib.Core.List.{List, [], ◌∷◌, ◌++◌}
-use Prim.Native.Nat.{ℕ, suc, ◌+◌, ◌*◌}
-use native.Mathlib.Omega.{arith}
-use lib.IntN.{pos}
-use lib.ListN.{replicate}
+-- shut where the theorem is applied.
+use Rattle.std.proofs.Common.{◌≡◌, refl, List, [], ◌∷◌, ◌++◌, ℕ, suc, ◌+◌, ◌*◌, arith, pos, replicate}
 use Rattle.outcome.specs.Checks.{first_met, first_outside, first_close}
 use Rattle.state.specs.Layout.{core_of, post_of, concealment_of, state_of}
 use Rattle.coding.specs.Bytes.{words, bytes_of, Bytes}

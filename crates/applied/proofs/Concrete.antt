@@ -1,15 +1,6 @@
--- What premises ask of lists and states that are written out: numbers are of 16 bits, and bytes are bytes, by a test. Assumes nothing.
-use Prim.Native.Nat.{ℕ, zero, suc}
-use mathlib.Core.Path.{◌≡◌}
-use mathlib.Core.Bool.{Bool, true, ◌&&◌}
-use mathlib.Core.List.{List, [], ◌∷◌}
-use lib.Dec.{ltb, lit<, lit≤}
-use lib.IntN.{ℤ}
+-- What premises ask of lists and states that are written out: numbers are of 16 bits, and bytes are bytes, by a test.
+use Rattle.std.proofs.Common.{ℕ, zero, suc, ◌≡◌, Bool, true, ◌&&◌, List, [], ◌∷◌, ltb, lit<, lit≤, ℤ, length, take, drop, w16, SFits, ltb-true}
 use lib.Signed.{mag}
-use lib.ListN.{length, take, drop}
-use mir.Syntax.{w16}
-use mir.Val.{SFits}
-use borrow.Author.Tests.{ltb-true}
 use Rattle.lists.specs.Lists.{at}
 use Rattle.basicop.specs.Words.{Words}
 use Rattle.basicop.proofs.Words.{zero_fits, words_take, words_drop}

@@ -1,8 +1,5 @@
--- `frame_divisions` at the call of specs/Examples.antt, whose quotients are twelve: the count is not computed. Assumes nothing.
-use mathlib.Core.Path.{◌≡◌, refl, sym, ap, ◌∙◌}
-use mathlib.Core.Bool.{true}
-use lib.IntN.{pos}
-use lib.ListN.{length, replicate}
+-- `frame_divisions` at the call of specs/Examples.antt, whose quotients are twelve: the count is not computed.
+use Rattle.std.proofs.Common.{◌≡◌, refl, sym, ap, ◌∙◌, true, pos, length, replicate}
 use Rattle.outcome.specs.Outcome.{is_accepted}
 use Rattle.outcome.specs.Checks.{first_met, first_outside, first_close}
 use Rattle.state.specs.Layout.{core_of, post_of, concealment_of, state_of}

@@ -1,12 +1,7 @@
 -- The erased frames of specs/Erased.antt: what the sheets come to, computed from the definition; `accepted_erased`, `sorted_kept`, `median_of_any`,
--- `concealed_in_range`, `next_accepted`, `next_well_formed`, `fields_placed`, `indexed_is_frame` and `demand_3`, applied. Assumes nothing.
-use mathlib.Core.Path.{◌≡◌, refl, sym, ap, ◌∙◌}
-use mathlib.Core.Bool.{true, false}
-use mathlib.Core.List.{List, [], ◌∷◌, map, flat_map}
+-- `concealed_in_range`, `next_accepted`, `next_well_formed`, `fields_placed`, `indexed_is_frame` and `every_list_as_measured`, applied.
+use Rattle.std.proofs.Common.{◌≡◌, refl, sym, ap, ◌∙◌, true, false, List, [], ◌∷◌, map, flat_map, lit<, ℤ, pos, length, replicate}
 use mathlib.Core.List.Perm
-use lib.Dec.{lit<}
-use lib.IntN.{ℤ, pos}
-use lib.ListN.{length, replicate}
 use lib.Signed.{le_z_yes}
 use Rattle.std.specs.Prelude.{Ok}
 use Rattle.lists.specs.Lists.{iter, tab}
@@ -60,10 +55,10 @@ use Rattle.calls.proofs.Calls.{next_accepted, next_well_formed}
 use Rattle.applied.specs.Examples.{silent}
 use Rattle.applied.specs.Gains.{log_table, pow_table}
 use Rattle.applied.specs.Indexed.{index_sheet, out}
-use Rattle.applied.specs.Erased.{erased_sheet, good_sheet, lost, lost_result, ErasedValues, erased_ordered, ErasedOrder, fives, lost_call, ErasedApplied, stage_7, after_lost, HeldIndexed, ErasedDemand3}
+use Rattle.applied.specs.Erased.{erased_sheet, good_sheet, lost, lost_result, ErasedValues, erased_ordered, ErasedOrder, fives, lost_call, ErasedApplied, stage_7, after_lost, HeldIndexed, ErasedList}
 use Rattle.applied.proofs.Concrete.{fits_by}
 use Rattle.applied.proofs.Examples.{example}
-use Rattle.applied.proofs.Demand3.{two_calls}
+use Rattle.applied.proofs.CallList.{two_calls}
 
 lost_accepted : erased_outcome (erased_sheet (pos 0)) silent 160 ≡ Ok tt
 unfolding silent erased_sheet state_of core_of post_of concealment_of first_met first_outside first_close call_outcome
@@ -194,5 +189,5 @@ second_refused : accepted (trace_of (next_state silent lost_call) stage_7) ≡ f
 unfolding erased_trace call_outcome first_met first_outside first_close erased_sheet
 second_refused = refl
 
-pub erased_demand_3 : ErasedDemand3
-erased_demand_3 = two_calls silent example.well_formed example.state lost_call stage_7 _ call_accepted second_refused
+pub erased_list : ErasedList
+erased_list = two_calls silent example.well_formed example.state lost_call stage_7 _ call_accepted second_refused

@@ -1,8 +1,5 @@
--- The calls of specs/Examples.antt, computed from the definition. Assumes nothing.
-use mathlib.Core.Path.{◌≡◌, refl, ap}
-use mathlib.Core.Bool.{false, cond, ◌||◌}
-use mathlib.Core.List.{flat_map}
-use lib.ListN.{get_or}
+-- The calls of specs/Examples.antt, computed from the definition.
+use Rattle.std.proofs.Common.{◌≡◌, refl, ap, false, cond, ◌||◌, flat_map, get_or}
 use Rattle.lists.specs.Lists.{iter, tab}
 use Rattle.basicop.specs.Ops.{clamp, asr, wrap, add, sub, mult, shl, l_add, l_sub, l_mult, l_shl, l_shr_r, l_deposit_h, doublings, norm_l, div_s, l_extract, mpy_32_16}
 use Rattle.pitch.specs.Lag.{absolute, lag_min, relative}

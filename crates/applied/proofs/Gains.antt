@@ -1,9 +1,5 @@
--- The calls of specs/Gains.antt, computed from the definition; `never_negative`, `row_ranges`, `accepted_tables` and `kept_accepted`, applied. Assumes nothing.
-use mathlib.Core.Path.{refl}
-use mathlib.Core.List.{◌∷◌}
-use native.Mathlib.Omega.{arith}
-use lib.Dec.{lit<}
-use lib.IntN.{pos}
+-- The calls of specs/Gains.antt, computed from the definition; `never_negative`, `row_ranges`, `accepted_tables` and `kept_accepted`, applied.
+use Rattle.std.proofs.Common.{refl, ◌∷◌, arith, lit<, pos}
 use Rattle.lists.specs.Lists.{iter}
 use Rattle.basicop.specs.Ops.{clamp, asr, wrap, sub, mult, l_add, l_sub, l_mult, l_shl, l_shr_r, l_deposit_h, doublings, norm_l, l_extract, mpy_32_16}
 use Rattle.energy.specs.Energy.{squares}

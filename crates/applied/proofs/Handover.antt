@@ -1,10 +1,5 @@
 -- `read_back`, `same_outcome` and `same_rest` at concrete records: the reader stays shut, and its premises are computed from the state or from the bytes.
--- Assumes nothing.
-use mathlib.Core.Path.{◌≡◌, refl, sym, ap, ◌∙◌}
-use mathlib.Core.Bool.{true}
-use mathlib.Core.List.{List, [], ◌++◌}
-use Prim.Native.Nat.{ℕ}
-use lib.IntN.{ℤ, pos}
+use Rattle.std.proofs.Common.{◌≡◌, refl, sym, ap, ◌∙◌, true, List, [], ◌++◌, ℕ, ℤ, pos}
 use Rattle.lists.specs.Lists.{minus}
 use Rattle.basicop.specs.Words.{Words}
 use Rattle.std.specs.Prelude.{Ok, Err}

@@ -1,9 +1,6 @@
 -- The index calls of specs/Indexed.antt: the gains computed from the definition, the frame itself stays shut; `indexed_is_frame`, `accepted_indexed` and
--- `demand_3`, applied. Assumes nothing.
-use mathlib.Core.Path.{◌≡◌, refl, ap}
-use mathlib.Core.Bool.{true, false}
-use mathlib.Core.List.{[], ◌∷◌}
-use lib.Dec.{lit<}
+-- `every_list_as_measured`, applied.
+use Rattle.std.proofs.Common.{◌≡◌, refl, ap, true, false, [], ◌∷◌, lit<}
 use Rattle.std.specs.Prelude.{Ok}
 use Rattle.lists.specs.Lists.{iter}
 use Rattle.basicop.specs.Ops.{clamp, asr, wrap, add, sub, mult, shl, l_add, l_sub, l_mult, l_shl, l_shr_r, l_deposit_h, doublings, norm_l, l_extract, mpy_32_16}
@@ -29,9 +26,9 @@ use Rattle.mr74.proofs.Indexed.{indexed_is_frame}
 use Rattle.calls.specs.Calls.{trace_of, next_state, accepted}
 use Rattle.applied.specs.Examples.{silent}
 use Rattle.applied.specs.Gains.{log_table, pow_table}
-use Rattle.applied.specs.Indexed.{index_sheet, out, indexed, gains_sheet, energies_left, IndexedValues, IndexedApplied, index_ordered, IndexOrder, index_call, tableless_call, IndexedDemand3}
+use Rattle.applied.specs.Indexed.{index_sheet, out, indexed, gains_sheet, energies_left, IndexedValues, IndexedApplied, index_ordered, IndexOrder, index_call, tableless_call, IndexedList}
 use Rattle.applied.proofs.Examples.{example}
-use Rattle.applied.proofs.Demand3.{two_calls}
+use Rattle.applied.proofs.CallList.{two_calls}
 
 index_accepted : indexed_outcome log_table pow_table index_sheet silent 160 ≡ Ok tt
 unfolding silent index_sheet log_table pow_table state_of core_of post_of concealment_of first_met first_outside first_close is_table call_outcome
@@ -82,5 +79,5 @@ second_refused : accepted (trace_of (next_state silent index_call) tableless_cal
 unfolding indexed_trace call_outcome first_met first_outside first_close is_table index_sheet
 second_refused = refl
 
-pub indexed_demand_3 : IndexedDemand3
-indexed_demand_3 = two_calls silent example.well_formed example.state index_call tableless_call [] first_accepted second_refused
+pub indexed_list : IndexedList
+indexed_list = two_calls silent example.well_formed example.state index_call tableless_call [] first_accepted second_refused

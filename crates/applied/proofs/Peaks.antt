@@ -1,11 +1,5 @@
--- The theorems of the peak by distance at the samples of specs/Peaks.antt; lines are computed from the definition. Assumes nothing.
-use mathlib.Core.Path.{◌≡◌, refl}
-use mathlib.Core.Bool.{Bool, true, false}
-use mathlib.Core.List.{List, [], ◌∷◌}
-use Prim.Native.Nat.{ℕ, zero, suc, ◌<◌}
-use native.Mathlib.Omega.{arith}
-use lib.IntN.{ℤ, pos, neg_ℤ}
-use lib.Signed.{◌<ℤ◌}
+-- The theorems of the peak by distance at the samples of specs/Peaks.antt; lines are computed from the definition.
+use Rattle.std.proofs.Common.{◌≡◌, refl, Bool, true, false, List, [], ◌∷◌, ℕ, zero, suc, ◌<◌, arith, ℤ, pos, neg_ℤ, ◌<ℤ◌}
 use Rattle.lists.specs.Lists.{at, minus}
 use Rattle.lines.specs.Lines.{larger, largest, peak_of, any_of, mark_of, spelled, decimal, integer, frame_line}
 use Rattle.lines.proofs.Peaks.{peak_sides, peak_unsigned, mark_sides}

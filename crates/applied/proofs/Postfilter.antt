@@ -1,10 +1,6 @@
--- `tilted`, `framed_any` and `framed_rows` at one row: that its tilt divides is computed, and the rest comes from the theorems. Assumes nothing.
-use mathlib.Core.Path.{◌≡◌, refl}
-use mathlib.Core.List.{List}
-use Prim.Native.Nat.{ℕ}
-use lib.IntN.{ℤ, pos}
-use lib.ListN.{length, replicate}
-use lib.Signed.{◌<ℤ◌, lt_z_yes}
+-- `tilted`, `framed_any` and `framed_rows` at one row: that its tilt divides is computed, and the rest comes from the theorems.
+use Rattle.std.proofs.Common.{◌≡◌, refl, List, ℕ, ℤ, pos, length, replicate, ◌<ℤ◌}
+use lib.Signed.{lt_z_yes}
 use Rattle.lists.specs.Lists.{at, iter, Every}
 use Rattle.lists.proofs.Entries.{every_map}
 use Rattle.basicop.specs.Ops.{Quotient, clamp, asr, mult, l_mult, l_sub, l_shl, l_add, div_s}

@@ -1,9 +1,6 @@
 -- The refusals of specs/Refusals.antt, computed from the definition; some of them, taken from those equations with the checks shut; and `accepted_gaps`,
--- applied. Assumes nothing.
-use mathlib.Core.Path.{refl, ap}
-use mathlib.Core.List.{List, ◌∷◌}
-use native.Mathlib.Omega.{arith}
-use lib.ListN.{get_or}
+-- applied.
+use Rattle.std.proofs.Common.{refl, ap, List, ◌∷◌, arith, get_or}
 use Rattle.outcome.specs.Checks.{first_met, first_outside, first_close}
 use Rattle.state.specs.Layout.{core_of, post_of, concealment_of, state_of}
 use Rattle.mr74.specs.Checks.{call_outcome}

@@ -1,13 +1,5 @@
--- The theorems of the shift report at the inputs and calls of specs/Report.antt; totals and lines are computed from the definition. Assumes nothing.
-use mathlib.Core.Path.{◌≡◌, refl, sym, ap, ◌∙◌, subst}
-use mathlib.Core.List.{List, [], ◌∷◌, ◌++◌}
-use Prim.Native.Nat.{ℕ, ◌+◌}
-use native.Mathlib.Omega.{arith}
-use lib.Dec.{lit≤, lit<}
-use lib.IntN.{ℤ, pos, ◌+ℤ◌, ◌*ℤ◌}
-use lib.ListN.{length, length-append}
-use lib.Seq.{take_at}
-use lib.Signed.{◌≤ℤ◌, ◌<ℤ◌}
+-- The theorems of the shift report at the inputs and calls of specs/Report.antt; totals and lines are computed from the definition.
+use Rattle.std.proofs.Common.{◌≡◌, refl, sym, ap, ◌∙◌, subst, List, [], ◌∷◌, ◌++◌, ℕ, ◌+◌, arith, lit≤, lit<, ℤ, pos, ◌+ℤ◌, ◌*ℤ◌, length, length-append, take_at, ◌≤ℤ◌, ◌<ℤ◌}
 use Rattle.lists.specs.Lists.{one_if, minus}
 use Rattle.outcome.specs.Checks.{first_met, first_outside, first_close}
 use Rattle.state.specs.State.{state_outcome}

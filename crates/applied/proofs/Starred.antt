@@ -1,5 +1,5 @@
--- The starred values hold, each computed from its definition. Assumes nothing.
-use mathlib.Core.Path.{refl}
+-- The starred values hold, each computed from its definition.
+use Rattle.std.proofs.Common.{refl}
 use Rattle.basicop.specs.Ops.{clamp, asr, wrap, add, sub, mult, l_add, l_sub, l_mult, l_shl, l_shr_r, l_deposit_h, doublings, norm_l}
 use Rattle.pitch.specs.Lag.{absolute, relative, lag_min}
 use Rattle.spectral.specs.Lsp.{cosine, between, lsp_of}

@@ -1,10 +1,6 @@
 -- `agree` and `retry` at two excitations: the clamped steps are computed, the whole numbers and the subframe stay shut, and what is said of them comes from
--- the theorems. Assumes nothing.
-use mathlib.Core.Path.{◌≡◌, refl, sym, ap, ◌∙◌, subst}
-use mathlib.Core.List.{List, [], ◌∷◌, ◌++◌}
-use Prim.Native.Nat.{ℕ}
-use lib.IntN.{ℤ, pos}
-use lib.ListN.{take, replicate}
+-- the theorems.
+use Rattle.std.proofs.Common.{◌≡◌, refl, sym, ap, ◌∙◌, subst, List, [], ◌∷◌, ◌++◌, ℕ, ℤ, pos, take, replicate}
 use Rattle.lists.specs.Lists.{minus}
 use Rattle.basicop.specs.Ops.{clamp, asr, l_mult, l_sub, l_shl, l_add, quartered}
 use Rattle.synthesis.specs.Recursion.{recursion}

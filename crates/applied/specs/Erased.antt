@@ -21,7 +21,7 @@ use Rattle.mr74.specs.Indexed.{decoded_sheet, indexed_prepared, opened_memory, i
 use Rattle.mr74.specs.Erased.{erased_prepared, erased_call, GainsIn}
 use Rattle.calls.specs.Calls.{Call, FrameCall, IndexCall, ErasedCall, next_state, state_after}
 use Rattle.applied.specs.Examples.{silent, silent_numbers, lag}
-use Rattle.applied.specs.Demand3.{TwoCalls}
+use Rattle.applied.specs.CallList.{TwoCalls}
 use Rattle.applied.specs.Gains.{log_table, pow_table}
 use Rattle.applied.specs.Indexed.{index_sheet, out}
 use Rattle.applied.specs.Refusals.{Refusal, refused, zeros_then, lowest}
@@ -186,5 +186,5 @@ stage_7 = ErasedCall (pos 100000 ∷ []) (erased_sheet (pos 7)) out
 abbrev pub mixed_calls : List Call
 mixed_calls = lost_call ∷ stage_7 ∷ IndexCall log_table pow_table opening_energies index_sheet out ∷ FrameCall good_sheet out ∷ []
 
-abbrev pub ErasedDemand3 : Type 0
-ErasedDemand3 = TwoCalls silent lost_call stage_7 (state_after silent mixed_calls)
+abbrev pub ErasedList : Type 0
+ErasedList = TwoCalls silent lost_call stage_7 (state_after silent mixed_calls)

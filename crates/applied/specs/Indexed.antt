@@ -11,7 +11,7 @@ use Rattle.mr74.specs.Indexed.{decoded_sheet, indexed_trace, indexed_call}
 use Rattle.state.specs.Layout.{state_of}
 use Rattle.calls.specs.Calls.{Call, IndexCall, state_after}
 use Rattle.applied.specs.Examples.{silent, silent_numbers}
-use Rattle.applied.specs.Demand3.{TwoCalls}
+use Rattle.applied.specs.CallList.{TwoCalls}
 use Rattle.applied.specs.Gains.{log_table, pow_table, falling, negative}
 use Rattle.applied.specs.Refusals.{Refusal, refused, zeros_then, lowest}
 
@@ -110,5 +110,5 @@ tableless_call = IndexCall [] [] (pos 1 ∷ pos 100000 ∷ []) index_sheet out
 abbrev pub index_calls : List Call
 index_calls = index_call ∷ tableless_call ∷ []
 
-abbrev pub IndexedDemand3 : Type 0
-IndexedDemand3 = TwoCalls silent index_call tableless_call (state_after silent index_calls)
+abbrev pub IndexedList : Type 0
+IndexedList = TwoCalls silent index_call tableless_call (state_after silent index_calls)

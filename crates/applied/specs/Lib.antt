@@ -5,7 +5,7 @@ pub mod Examples
 pub mod Refusals
 pub mod Gains
 pub mod Indexed
-pub mod Demand3
+pub mod CallList
 pub mod Erased
 pub mod Divisions
 pub mod Calls

@@ -1,8 +1,5 @@
--- What a proof of a caller of the operators is handed. Assumes nothing.
-use mathlib.Core.Path.{◌≡◌}
-use borrow.Author.Rules.{rules}
-use lib.IntN.{ℤ}
-use mir.Facts.{to_z-of_z}
+-- What a proof of a caller of the operators is handed.
+use Rattle.std.proofs.Common.{◌≡◌, rules, ℤ, to_z-of_z}
 use Rattle.basicop.specs.Ops.{l_mac}
 use Rattle.basicop.proofs.Range.{sfits_wider, sfits_add, sfits_sub, sfits_mul, sfits_times, sfits_scale, to_z_nat, cast_asks, cast_gives}
 use Rattle.basicop.proofs.Shift.{asr_fits, sfits_shr_z, sfits_shr_same}

@@ -1,17 +1,8 @@
--- The clamp, for any width. Assumes nothing.
-use mathlib.Core.Path.{◌≡◌, refl, sym, ap, ◌∙◌}
-use mathlib.Core.Bool.{Bool, true, false, cond}
-use Prim.Native.Nat.{ℕ, zero, suc, min, ◌*◌, ◌-◌, ◌^◌, ◌<◌, ◌≤◌}
-use native.Mathlib.Nat.{zero-mul}
-use native.Mathlib.Omega.{arith}
-use borrow.Author.Tests.{leb-true, leb-false, ltb-true, ltb-false}
-use lib.Dec.{T, leb, ltb, lit<}
-use lib.Pow.{pow_mono, pow_pos}
-use lib.IntN.{ℤ, pos, negsuc, neg_ℤ, ◌-ℤ◌, ◌*ℤ◌}
-use lib.Signed.{◌≤ℤ◌, ◌<ℤ◌, lt_z}
-use mir.Syntax.{Width, w8, w16, w32, w64, w128}
-use mir.Val.{SFits, hbits, to_z, of_z}
-use mir.Facts.{to_z-of_z}
+-- The clamp, for any width.
+use Rattle.std.proofs.Common.{◌≡◌, refl, sym, ap, ◌∙◌, Bool, true, false, cond, ℕ, zero, suc, min, ◌*◌, ◌-◌, ◌^◌, ◌<◌, ◌≤◌, zero-mul, arith, leb-true, leb-false, ltb-true, ltb-false, T, leb, ltb, lit<, pow_mono, pow_pos, ℤ, pos, negsuc, neg_ℤ, ◌-ℤ◌, ◌*ℤ◌, ◌≤ℤ◌, ◌<ℤ◌, w8, w16, w32, w64, SFits, to_z, of_z, to_z-of_z}
+use lib.Signed.{lt_z}
+use mir.Syntax.{Width, w128}
+use mir.Val.{hbits}
 use Rattle.std.specs.Int.{int_max, int_min}
 use Rattle.basicop.specs.Ops.{clamp, least, most}
 use Rattle.basicop.proofs.Ints.{arith_ℤ, sub_ℤ_is}

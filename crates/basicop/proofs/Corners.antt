@@ -1,6 +1,5 @@
--- Closed values at the operators' corners, computed from the definitions. Assumes nothing.
-use mathlib.Core.Path.{◌≡◌, refl}
-use lib.IntN.{pos, negsuc}
+-- Closed values at the operators' corners, computed from the definitions.
+use Rattle.std.proofs.Common.{◌≡◌, refl, pos, negsuc}
 use Rattle.lists.specs.Lists.{iter}
 use Rattle.basicop.specs.Ops.{clamp, asr, wrap, mult, l_add, l_mult, l_shl, l_shr_r, extract_l, round, doublings, norm_l, div_s}
 

@@ -1,16 +1,8 @@
--- Shifts by a signed count, as the code takes it apart: a count from 0 on, or the opposite of a negative one. Assumes nothing.
-use mathlib.Core.Path.{◌≡◌, refl, sym, ap, ◌∙◌}
-use Prim.Native.Nat.{ℕ, zero, suc, ◌-◌, ◌^◌, ◌<◌, ◌≤◌}
-use native.Mathlib.Numerals.{add-one}
-use native.Mathlib.Nat.{lt_irrefl}
-use native.Mathlib.Omega.{arith}
-use borrow.Author.Tests.{lt-ltb, le-ltb}
-use lib.Dec.{T, lit<, lit≤, leb→le, ltb→lt}
-use lib.Pow.{pow_pos}
-use lib.IntN.{ℤ, pos, negsuc, nat_abs, ◌+ℤ◌, ◌-ℤ◌, ◌*ℤ◌}
-use lib.Signed.{◌≤ℤ◌, ◌<ℤ◌, le_z, shr_z}
-use mir.Syntax.{Width, w16, w32}
-use mir.Val.{SFits, hbits}
+-- Shifts by a signed count, as the code takes it apart: a count from 0 on, or the opposite of a negative one.
+use Rattle.std.proofs.Common.{◌≡◌, refl, sym, ap, ◌∙◌, ℕ, zero, suc, ◌-◌, ◌^◌, ◌<◌, ◌≤◌, add-one, lt_irrefl, arith, lt-ltb, le-ltb, T, lit<, lit≤, leb→le, ltb→lt, pow_pos, ℤ, pos, negsuc, nat_abs, ◌+ℤ◌, ◌-ℤ◌, ◌*ℤ◌, ◌≤ℤ◌, ◌<ℤ◌, w16, w32, SFits}
+use lib.Signed.{le_z, shr_z}
+use mir.Syntax.{Width}
+use mir.Val.{hbits}
 use Rattle.basicop.specs.Ops.{clamp, asr, mod_z, shl, shr, l_shl, l_shr, l_shr_r}
 use borrow.Author.Differences.{sum_is_lem}
 use Rattle.basicop.proofs.Ints.{arith_ℤ, sfits_by, sub_ℤ_is}

@@ -1,8 +1,5 @@
--- What each operator gives fits its type. Assumes nothing.
-use Prim.Native.Nat.{suc}
-use lib.IntN.{ℤ, pos, negsuc}
-use mir.Syntax.{w16, w32}
-use mir.Val.{SFits}
+-- What each operator gives fits its type.
+use Rattle.std.proofs.Common.{suc, ℤ, pos, negsuc, w16, w32, SFits}
 use Rattle.basicop.specs.Ops.{add, l_add, l_sub, l_mult, l_shl, extract_h, round}
 use Rattle.basicop.proofs.Clamp.{clamp_fits}
 use Rattle.basicop.proofs.Shift.{asr_fits, asr_same}

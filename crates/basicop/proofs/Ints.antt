@@ -1,12 +1,9 @@
--- ℤ by its two parts, as std reads it: z is up z - down z, one of which is 0. Every linear fact over ℤ is one over ℕ. Assumes nothing.
-use mathlib.Core.Path.{◌≡◌}
-use Prim.Native.Nat.{ℕ, suc, max, ◌+◌, ◌^◌, ◌<◌, ◌≤◌}
-use native.Mathlib.Omega.{arith}
+-- ℤ by its two parts, as std reads it: z is up z - down z, one of which is 0. Every linear fact over ℤ is one over ℕ.
+use Rattle.std.proofs.Common.{◌≡◌, ℕ, suc, max, ◌+◌, ◌^◌, ◌<◌, ◌≤◌, arith, ℤ, pos, negsuc, neg_ℤ, ◌-ℤ◌, ◌≤ℤ◌, ◌<ℤ◌, SFits}
 use borrow.Author.Differences.{up, down, le_out, lt_out, same_out, at_most_in, below_in, same_in, sum_is_lem, neg_is}
-use lib.IntN.{ℤ, pos, negsuc, neg_ℤ, ◌-ℤ◌}
-use lib.Signed.{◌≤ℤ◌, ◌<ℤ◌, mag}
+use lib.Signed.{mag}
 use mir.Syntax.{Width}
-use mir.Val.{SFits, hbits}
+use mir.Val.{hbits}
 
 -- std's laws of the order at a goal, with the numbers found
 pub le_in : {a b : ℤ} → up a + down b ≤ up b + down a → a ≤ℤ b

@@ -1,8 +1,5 @@
--- The operators of numbers that are not negative, in ℕ. Assumes nothing.
-use mathlib.Core.Path.{◌≡◌, refl, ap, ◌∙◌}
-use Prim.Native.Nat.{ℕ, min, ◌+◌, ◌*◌, ◌-◌, ◌/◌, ◌^◌, ◌≤◌}
-use lib.IntN.{pos, ◌-ℤ◌}
-use mir.Syntax.{w16, w32}
+-- The operators of numbers that are not negative, in ℕ.
+use Rattle.std.proofs.Common.{◌≡◌, refl, ap, ◌∙◌, ℕ, min, ◌+◌, ◌*◌, ◌-◌, ◌/◌, ◌^◌, ◌≤◌, pos, ◌-ℤ◌, w16, w32}
 use Rattle.basicop.specs.Ops.{asr, clamp, add, sub, mult, l_add, l_sub, l_mult, l_shl, round}
 use Rattle.basicop.proofs.Ints.{arith_ℤ, sub_ℤ_is}
 use Rattle.basicop.proofs.Clamp.{clamp_pos}

@@ -1,17 +1,7 @@
--- norm_l: the two bounds of what it normalises, and that the count of leading zeros finds it. Assumes nothing.
-use mathlib.Core.Path.{◌≡◌, refl, sym, ap, ◌∙◌, subst}
-use mathlib.Core.Bool.{Bool, true, false, cond}
-use Prim.Native.Nat.{ℕ, zero, suc, zero-le, suc-le-suc, ◌+◌, ◌*◌, ◌-◌, ◌^◌, ◌<◌, ◌≤◌}
-use native.Mathlib.Nat.{pow-suc, pow-zero, mul-le-mul_left, mul-le-mul_right, mul-lt-mul_of_pos_right, lt_irrefl, le_refl, lt_of_mul-lt-mul_right}
-use native.Mathlib.Omega.{arith}
-use borrow.Author.Tests.{ltb-true, ltb-false}
+-- norm_l: the two bounds of what it normalises, and that the count of leading zeros finds it.
+use Rattle.std.proofs.Common.{◌≡◌, refl, sym, ap, ◌∙◌, subst, Bool, true, false, cond, ℕ, zero, suc, zero-le, suc-le-suc, ◌+◌, ◌*◌, ◌-◌, ◌^◌, ◌<◌, ◌≤◌, pow-suc, mul-le-mul_left, mul-le-mul_right, mul-lt-mul_of_pos_right, lt_irrefl, le_refl, lt_of_mul-lt-mul_right, arith, ltb-true, ltb-false, ltb, ltb→lt, lit≤, pow_mono, pow_pos, pow-add, ℤ, pos, negsuc, ◌*ℤ◌, ◌≤ℤ◌, ◌<ℤ◌, w32, SFits}
+use native.Mathlib.Nat.{pow-zero}
 use lib.Count.{count_leading_zeros, leading_of_zero, leading_top}
-use lib.Dec.{ltb, ltb→lt, lit≤}
-use lib.Pow.{pow_mono, pow_pos, pow-add}
-use lib.IntN.{ℤ, pos, negsuc, ◌*ℤ◌}
-use lib.Signed.{◌≤ℤ◌, ◌<ℤ◌}
-use mir.Syntax.{w32}
-use mir.Val.{SFits}
 use Rattle.basicop.specs.Ops.{doublings, norm_l, l_shl}
 use borrow.Author.Differences.{product_is}
 use Rattle.basicop.proofs.Ints.{arith_ℤ}

@@ -1,16 +1,10 @@
--- The shift to the right and its remainder. Assumes nothing.
-use mathlib.Core.Path.{◌≡◌, refl, sym, ap, ◌∙◌, subst}
-use mathlib.Core.Bool.{Bool, true, false}
-use Prim.Native.Nat.{ℕ, min, ◌+◌, ◌*◌, ◌/◌, ◌^◌, ◌<◌, ◌≤◌}
-use native.Mathlib.Nat.{div-eq_of_lt, div-div-eq-div-mul, div-one, div-add-mod', mod-lt, div-le_self, div-lt_iff_lt-mul, lt_of_le_of_lt, lt_of_lt_of_le}
-use native.Mathlib.Omega.{arith}
-use borrow.Author.Tests.{leb-true, leb-false}
-use lib.Dec.{T, leb, ltb, leb→le, ltb→lt}
-use lib.Pow.{pow-add, pow_mono, shr_lt, shr_mono}
-use lib.IntN.{ℤ, pos, negsuc}
-use lib.Signed.{◌≤ℤ◌, le_z, mag, shr_z}
+-- The shift to the right and its remainder.
+use Rattle.std.proofs.Common.{◌≡◌, refl, sym, ap, ◌∙◌, subst, Bool, true, false, ℕ, min, ◌+◌, ◌*◌, ◌/◌, ◌^◌, ◌<◌, ◌≤◌, div-one, div-add-mod', mod-lt, div-le_self, div-lt_iff_lt-mul, lt_of_le_of_lt, lt_of_lt_of_le, arith, leb-true, leb-false, T, leb, ltb, leb→le, ltb→lt, pow-add, pow_mono, shr_lt, ℤ, pos, negsuc, ◌≤ℤ◌, SFits}
+use native.Mathlib.Nat.{div-eq_of_lt, div-div-eq-div-mul}
+use lib.Pow.{shr_mono}
+use lib.Signed.{le_z, mag, shr_z}
 use mir.Syntax.{Width}
-use mir.Val.{SFits, hbits}
+use mir.Val.{hbits}
 use Rattle.basicop.specs.Ops.{asr, mod_z}
 use borrow.Author.Differences.{up, down}
 use Rattle.basicop.proofs.Ints.{arith_ℤ}

@@ -1,15 +1,5 @@
--- The way between two entries of a table: where a position lies, and that no step between two entries of 0..=32767 clamps, whether they rise or fall. Assumes nothing.
-use mathlib.Core.Path.{◌≡◌, refl, ap}
-use mathlib.Core.List.{List}
-use Prim.Native.Nat.{ℕ, ◌+◌, ◌*◌, ◌-◌, ◌/◌, ◌<◌, ◌≤◌}
-use native.Mathlib.Nat.{div-lt_iff_lt-mul, le-div_iff_mul-le, mul-le-mul_right, le_refl}
-use native.Mathlib.Omega.{arith}
-use lib.Dec.{lit<}
-use lib.IntN.{ℤ, pos, negsuc, nat_abs, ◌+ℤ◌, ◌-ℤ◌, ◌*ℤ◌}
-use lib.ListN.{length}
-use lib.Signed.{◌≤ℤ◌, ◌<ℤ◌}
-use mir.Syntax.{w16, w32}
-use mir.Val.{SFits}
+-- The way between two entries of a table: where a position lies, and that no step between two entries of 0..=32767 clamps, whether they rise or fall.
+use Rattle.std.proofs.Common.{◌≡◌, refl, ap, List, ℕ, ◌+◌, ◌*◌, ◌-◌, ◌/◌, ◌<◌, ◌≤◌, div-lt_iff_lt-mul, le-div_iff_mul-le, mul-le-mul_right, le_refl, arith, lit<, ℤ, pos, negsuc, nat_abs, ◌+ℤ◌, ◌-ℤ◌, ◌*ℤ◌, length, ◌≤ℤ◌, ◌<ℤ◌, w16, w32, SFits}
 use Rattle.basicop.specs.Ops.{asr, sub, l_sub, l_mult, extract_h, l_deposit_h, l_extract}
 use Rattle.basicop.specs.Interpolation.{position_of, between}
 use Rattle.basicop.specs.declared.Dpf.{Dpf}

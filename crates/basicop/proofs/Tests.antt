@@ -1,13 +1,7 @@
--- A test of two signed numbers, as a branch leaves it, is a fact of their order. Assumes nothing.
-use mathlib.Core.Path.{◌≡◌, refl, subst}
-use mathlib.Core.Bool.{true, false}
-use borrow.Author.Tests.{leb-false, lt-ltb, le-ltb}
-use lib.Dec.{T, lt→ltb, ltb→lt, leb→le}
-use lib.IntN.{ℤ, pos, negsuc}
-use lib.Signed.{◌≤ℤ◌, ◌<ℤ◌, le_z, lt_z, lt_z_no}
+-- A test of two signed numbers, as a branch leaves it, is a fact of their order.
+use Rattle.std.proofs.Common.{◌≡◌, refl, subst, true, false, leb-false, lt-ltb, le-ltb, T, lt→ltb, ltb→lt, leb→le, ℤ, pos, negsuc, ◌≤ℤ◌, ◌<ℤ◌, SFits, to_z, of_z, to_z-of_z}
+use lib.Signed.{le_z, lt_z, lt_z_no}
 use mir.Syntax.{Width}
-use mir.Val.{SFits, to_z, of_z}
-use mir.Facts.{to_z-of_z}
 
 pub less_yes : {a b : ℤ} → lt_z a b ≡ true → a <ℤ b
 less_yes e = record { lt = rw e tt }

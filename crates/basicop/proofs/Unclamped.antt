@@ -1,11 +1,6 @@
--- Sums that no L_mac clamps, by the sizes of what is added. Assumes nothing.
-use mathlib.Core.Path.{◌≡◌}
-use mathlib.Core.Logic.{⊎_elim}
-use Prim.Native.Nat.{ℕ, zero, suc, ◌+◌, ◌*◌, ◌≤◌, ◌<◌}
-use native.Mathlib.Nat.{le_refl, le_of_suc-le-suc, eq-or-lt_of_le, mul-add}
-use native.Mathlib.Omega.{arith}
-use lib.IntN.{ℤ, pos, nat_abs, ◌+ℤ◌, ◌*ℤ◌, +ℤ_idl}
-use mir.Syntax.{w32}
+-- Sums that no L_mac clamps, by the sizes of what is added.
+use Rattle.std.proofs.Common.{◌≡◌, ⊎_elim, ℕ, zero, suc, ◌+◌, ◌*◌, ◌≤◌, ◌<◌, le_refl, le_of_suc-le-suc, eq-or-lt_of_le, mul-add, arith, ℤ, pos, nat_abs, ◌+ℤ◌, ◌*ℤ◌, w32}
+use lib.IntN.{+ℤ_idl}
 use Rattle.basicop.specs.Ops.{l_add, l_mult, l_mac}
 use Rattle.basicop.specs.Inner.{Unclamped, sizes}
 use Rattle.basicop.proofs.Ints.{sfits_by}

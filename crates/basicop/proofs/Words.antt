@@ -1,13 +1,6 @@
--- Lists of 16-bit numbers, put together and taken apart. Assumes nothing.
-use Prim.Native.Nat.{ℕ, zero, suc, ◌+◌, ◌-◌, ◌≤◌}
-use mathlib.Core.Path.{◌≡◌, refl, ◌∙◌}
-use mathlib.Core.List.{List, [], ◌∷◌, ◌++◌, map}
-use native.Mathlib.Omega.{arith}
-use lib.Dec.{lit<}
-use lib.IntN.{ℤ, pos}
-use lib.ListN.{length, take, drop, length-append, length-take, length-drop, length-map}
-use mir.Syntax.{w16}
-use mir.Val.{SFits}
+-- Lists of 16-bit numbers, put together and taken apart.
+use Rattle.std.proofs.Common.{ℕ, zero, suc, ◌+◌, ◌-◌, ◌≤◌, ◌≡◌, refl, ◌∙◌, List, [], ◌∷◌, ◌++◌, map, arith, lit<, ℤ, pos, length, take, drop, length-append, length-take, length-drop, w16, SFits}
+use lib.ListN.{length-map}
 use Rattle.lists.specs.Lists.{at, tab, pairwise}
 use Rattle.lists.proofs.Entries.{length_tab, length_pairwise, each_append, each_tab, each_drop, each_take, each_map, each_pairwise}
 use Rattle.basicop.specs.Ops.{shr, quartered}

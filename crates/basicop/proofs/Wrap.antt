@@ -1,16 +1,7 @@
 -- The low bits read as signed, proved over the modulus, for any width: what `wrap` gives is in range, is z up to a multiple of 2 ^ w, and is the only such number.
--- Assumes nothing.
-use mathlib.Core.Path.{◌≡◌, refl, sym, ap, ◌∙◌}
-use mathlib.Core.Bool.{Bool, true, false}
-use Prim.Native.Nat.{ℕ, suc, ◌*◌, ◌-◌, ◌%◌, ◌^◌, ◌<◌, ◌≤◌}
-use native.Mathlib.Nat.{mod-eq_of_lt}
-use native.Mathlib.Omega.{arith}
-use borrow.Author.Tests.{lt-ltb, le-ltb, ltb-true, ltb-false}
-use lib.Dec.{ltb}
-use lib.Pow.{pow_pos}
-use lib.IntN.{ℤ, pos, negsuc, ◌-ℤ◌}
-use mir.Syntax.{Width, w8, w16, w32, w64, w128}
-use mir.Val.{SFits, bits, hbits, to_z}
+use Rattle.std.proofs.Common.{◌≡◌, refl, sym, ap, ◌∙◌, Bool, true, false, ℕ, suc, ◌*◌, ◌-◌, ◌%◌, ◌^◌, ◌<◌, ◌≤◌, mod-eq_of_lt, arith, lt-ltb, le-ltb, ltb-true, ltb-false, ltb, pow_pos, ℤ, pos, negsuc, ◌-ℤ◌, w8, w16, w32, w64, SFits, to_z}
+use mir.Syntax.{Width, w128}
+use mir.Val.{bits, hbits}
 use mir.Facts.{to_z_pos, to_z-neg}
 use Rattle.basicop.specs.Ops.{wrap, mod_z}
 use Rattle.basicop.proofs.Ints.{arith_ℤ, sub_ℤ_is}

@@ -1,6 +1,6 @@
 -- The basic operators of 3GPP TS 26.073 (basic_op, oper_32b), over the integers, under the standard's names in lower case.
 -- A number of 16 or 32 bits is an integer here: `pos n` is n and `negsuc n` is -(n + 1). `clamp` is the standard's saturation.
-use Rattle.std.specs.Prelude.{cond, List, map, ℕ, zero, suc, ◌-◌, ◌*◌, ◌%◌, ◌^◌, ltb, ℤ, pos, negsuc, ◌+ℤ◌, ◌-ℤ◌, ◌*ℤ◌}
+use Rattle.std.specs.Prelude.{if◌then◌else◌, List, map, ℕ, zero, suc, ◌-◌, ◌*◌, ◌%◌, ◌^◌, nat_lt, ℤ, pos, negsuc, ◌+ℤ◌, ◌-ℤ◌, ◌*ℤ◌}
 use Rattle.std.specs.Int.Signed.{lt_z, le_z, shr_z}
 use Rattle.std.specs.Int.{Width, w16, w32}
 use mir.Val.{bits, hbits}
@@ -17,7 +17,7 @@ most w = pos (2 ^ hbits w - 1)
 
 -- z held to the range of the width: document 01's "clamped"
 unfoldable pub clamp : Width → ℤ → ℤ
-clamp w z = cond (lt_z z (least w)) (least w) (cond (lt_z (most w) z) (most w) z)
+clamp w z = if lt_z z (least w) then least w else if lt_z (most w) z then most w else z
 
 -- z >> n, the arithmetic shift: z / 2 ^ n, rounded toward minus infinity
 unfoldable pub asr : ℤ → ℕ → ℤ
@@ -40,7 +40,7 @@ bit z n = low_bits 1 (asr z n)
 unfoldable pub wrap : Width → ℤ → ℤ
 wrap w z =
     let m = mod_z z (2 ^ bits w) in
-    cond (ltb m (2 ^ hbits w)) (pos m) (pos m -ℤ pos (2 ^ bits w))
+    if nat_lt m (2 ^ hbits w) then pos m else pos m -ℤ pos (2 ^ bits w)
 
 -- ---- 16 bits
 unfoldable pub add : ℤ → ℤ → ℤ
@@ -92,7 +92,7 @@ l_shr x (negsuc n) = l_shl x (pos (suc n))
 -- the shift to the right that rounds: by 1 to 31 the last bit that leaves is added, by more the answer is 0
 unfoldable pub l_shr_r : ℤ → ℤ → ℤ
 l_shr_r x (pos zero) = x
-l_shr_r x (pos (suc n)) = cond (ltb n 31) (asr x (suc n) +ℤ bit x n) (pos 0)
+l_shr_r x (pos (suc n)) = if nat_lt n 31 then asr x (suc n) +ℤ bit x n else pos 0
 l_shr_r x (negsuc n) = l_shl x (pos (suc n))
 
 -- ---- between 16 and 32 bits
@@ -113,7 +113,7 @@ l_deposit_h a = a *ℤ pos 65536
 -- how often n is doubled until it is at least 2 ^ 30, at most f times
 unfoldable pub doublings : ℕ → ℕ → ℕ
 doublings zero n = 0
-doublings (suc f) n = cond (ltb n 1073741824) (suc (doublings f (2 * n))) 0
+doublings (suc f) n = if nat_lt n 1073741824 then suc (doublings f (2 * n)) else 0
 
 -- 0 for 0 and 31 for -1; else of x, and of its complement -x - 1 where x is negative
 unfoldable pub norm_l : ℤ → ℤ
@@ -138,12 +138,12 @@ abbrev pub turn : ℤ → ℕ → Turn → Turn
 turn d k t =
     let num = pos 2 *ℤ t.num in
     let quo = pos 2 *ℤ t.quo in
-    cond (le_z d num) (record { num = num -ℤ d; quo = quo +ℤ pos 1 }) (record { num = num; quo = quo })
+    if le_z d num then record { num = num -ℤ d; quo = quo +ℤ pos 1 } else record { num = num; quo = quo }
 
 unfoldable pub div_s : ℤ → ℤ → Quotient
 div_s n d =
     record {
-      value = cond (eq_z n d) (pos 32767) (iter (turn d) 15 (record { num = n; quo = pos 0 })).quo;
+      value = if eq_z n d then pos 32767 else (iter (turn d) 15 (record { num = n; quo = pos 0 })).quo;
       divisor = d;
     }
 

@@ -1,11 +1,5 @@
--- A sheet's line, where its frame call is accepted and where it is refused; and its step, of nothing, of a whole sheet and of some of one. Assumes nothing.
-use mathlib.Core.Path.{◌≡◌, refl}
-use mathlib.Core.Bool.{Bool, true, false}
-use mathlib.Core.List.{List, [], map}
-use Prim.Native.Nat.{ℕ}
-use borrow.Author.Tests.{ne_eqb}
-use lib.IntN.{ℤ}
-use lib.ListN.{length}
+-- A sheet's line, where its frame call is accepted and where it is refused; and its step, of nothing, of a whole sheet and of some of one.
+use Rattle.std.proofs.Common.{◌≡◌, refl, Bool, true, false, List, [], map, ℕ, ne_eqb, ℤ, length}
 use Rattle.decoder.specs.Subframe.{flag_of}
 use Rattle.state.specs.declared.State.{State}
 use Rattle.std.specs.Prelude.{Ok, Err}

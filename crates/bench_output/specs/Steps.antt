@@ -1,5 +1,5 @@
 -- The program's steps, one for each sheet that it reads, and what they come to together. The theorem is `steps_output` in proofs/Steps.antt.
-use Rattle.std.specs.Prelude.{◌≡◌, true, false, cond, List, [], ◌++◌, ℕ, zero, suc, ◌≤◌, ◌*◌, eqb, length, take, drop}
+use Rattle.std.specs.Prelude.{◌≡◌, true, false, if◌then◌else◌, List, [], ◌++◌, ℕ, zero, suc, ◌≤◌, ◌*◌, ◌==◌, length, take, drop}
 use Rattle.state.specs.declared.State.{State}
 use Rattle.lines.specs.Lines.{cut_line}
 use Rattle.sheets.specs.Sheets.{record_bytes, sheet_bytes, sheet_call, StepResult, step_result, opening_step}
@@ -9,8 +9,11 @@ use Rattle.bench_output.specs.Output.{answer_line, bench_output}
 unfoldable pub sheet_step : ℕ → State → List ℕ → StepResult
 sheet_step n s bytes =
     let k = sheet_call bytes s in
-    cond (eqb (length bytes) 0) (step_result [] s false)
-    (cond (eqb (length bytes) sheet_bytes) (step_result (answer_line n k) k.answer.next true) (step_result (cut_line n) s false))
+    if length bytes == 0
+    then step_result [] s false
+    else if length bytes == sheet_bytes
+    then step_result (answer_line n k) k.answer.next true
+    else step_result (cut_line n) s false
 
 -- what so many rounds of the program's loop print, from sheet n on: each reads as many bytes as a sheet has, or what is left of the input, and takes
 -- a step on them; the loop ends where a step says so
@@ -18,13 +21,13 @@ unfoldable pub loop_output : ℕ → ℕ → State → List ℕ → List ℕ
 loop_output zero n s input = []
 loop_output (suc k) n s input =
     let r = sheet_step n s (take sheet_bytes input) in
-    r.line ++ cond r.more (loop_output k (suc n) r.next (drop sheet_bytes input)) []
+    r.line ++ (if r.more then loop_output k (suc n) r.next (drop sheet_bytes input) else [])
 
 -- what the program prints: the first step, and the loop after it, of at most so many rounds
 unfoldable pub program_output : ℕ → List ℕ → List ℕ
 program_output k input =
     let r = opening_step (take record_bytes input) in
-    r.line ++ cond r.more (loop_output k 1 r.next (drop record_bytes input)) []
+    r.line ++ (if r.more then loop_output k 1 r.next (drop record_bytes input) else [])
 
 -- of any input, with rounds enough for it, the program prints `bench_output`
 abbrev pub StepsOutput : Type 0

@@ -1,9 +1,6 @@
--- One call: what it gives, and what it keeps. A kind of call has a clause in `accepts` and one in `refuses`. Assumes nothing.
-use mathlib.Core.Path.{◌≡◌, refl, sym, ap, ◌∙◌, subst}
-use mathlib.Core.Bool.{Bool, true, false}
-use mathlib.Core.List.{List}
-use lib.IntN.{ℤ}
-use lib.ListN.{length, get_or, length-map}
+-- One call: what it gives, and what it keeps. A kind of call has a clause in `accepts` and one in `refuses`.
+use Rattle.std.proofs.Common.{◌≡◌, refl, sym, ap, ◌∙◌, subst, Bool, true, false, List, ℤ, length, get_or}
+use lib.ListN.{length-map}
 use Rattle.lists.specs.Lists.{Every}
 use Rattle.basicop.specs.Words.{Words}
 use Rattle.decoder.specs.Subframe.{flag_of}

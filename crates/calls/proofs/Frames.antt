@@ -1,10 +1,7 @@
 -- What a frame gives, of what a usable sheet comes to and a state that the checks let pass: ranges, divisors, and a state that they let pass, well-formed but for
--- its concealment. Assumes nothing.
-use lib.Dec.{lit≤}
-use lib.IntN.{ℤ, pos}
-use lib.Signed.{◌≤ℤ◌, le_z_yes}
-use mir.Syntax.{w16}
-use mir.Val.{SFits}
+-- its concealment.
+use Rattle.std.proofs.Common.{lit≤, ℤ, pos, ◌≤ℤ◌, w16, SFits}
+use lib.Signed.{le_z_yes}
 use Rattle.lists.specs.Lists.{Every}
 use Rattle.lists.proofs.Entries.{every_append, every_map}
 use Rattle.basicop.specs.Ops.{Quotient}

@@ -1,9 +1,5 @@
--- Lists of calls. Assumes nothing.
-use mathlib.Core.Path.{◌≡◌, refl, sym, ap, ◌∙◌, subst}
-use mathlib.Core.Bool.{Bool, true, cond, ◌||◌, true≢false}
-use mathlib.Core.List.{List, [], ◌∷◌, ◌++◌}
-use Prim.Native.Nat.{ℕ, suc}
-use lib.ListN.{length, get_or}
+-- Lists of calls.
+use Rattle.std.proofs.Common.{◌≡◌, refl, sym, ap, ◌∙◌, subst, Bool, true, cond, ◌||◌, true≢false, List, [], ◌∷◌, ◌++◌, ℕ, suc, length, get_or}
 use Rattle.decoder.specs.Subframe.{flag_of}
 use Rattle.state.specs.declared.State.{State}
 use Rattle.std.specs.Prelude.{Ok}

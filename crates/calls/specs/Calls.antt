@@ -1,5 +1,5 @@
 -- The kinds of calls, and lists of them: document 01, "each call given the state that the last one gave back".
-use Rattle.std.specs.Prelude.{◌≡◌, Ok, Bool, true, false, cond, ◌||◌, List, [], ◌∷◌, ℕ, ℤ, get_or}
+use Rattle.std.specs.Prelude.{◌≡◌, Ok, Bool, true, false, if◌then◌else◌, ◌||◌, List, [], ◌∷◌, ℕ, ℤ, slice_index_or}
 use Rattle.std.specs.Int.{w16}
 use Rattle.std.proofs.Common.{SFits}
 use Rattle.lists.specs.Lists.{at}
@@ -45,7 +45,7 @@ any_accepted (t ∷ ts) = accepted t || any_accepted ts
 -- the place of the last subframe of the latest accepted call; `before` where there is none
 unfoldable pub latest_place : ℕ → List Trace → ℕ
 latest_place before [] = before
-latest_place before (t ∷ ts) = latest_place (cond (accepted t) (get_or t.places 3 40) before) ts
+latest_place before (t ∷ ts) = latest_place (if accepted t then slice_index_or t.places 3 40 else before) ts
 
 -- ---- what a call leaves of a well-formed state. The theorems are `next_accepted` and `next_well_formed` in proofs/Calls.antt
 -- an accepted call of any kind leaves an accepted state,

@@ -1,13 +1,6 @@
--- What is lent, part by part. Assumes nothing.
-use mathlib.Core.Path.{◌≡◌, refl, sym, ◌∙◌, subst}
-use mathlib.Core.Bool.{Bool, true, false, cond}
-use mathlib.Core.List.{List, [], ◌∷◌}
-use Prim.Native.Nat.{ℕ, zero, suc, ◌≤◌, ◌<◌}
-use native.Mathlib.Omega.{arith}
-use lib.Dec.{eqb}
-use lib.IntN.{ℤ, pos}
-use lib.ListN.{length, length-replicate}
-use borrow.Author.Tests.{eqb-true}
+-- What is lent, part by part.
+use Rattle.std.proofs.Common.{◌≡◌, refl, sym, ◌∙◌, subst, Bool, true, false, cond, List, [], ◌∷◌, ℕ, zero, suc, ◌≤◌, ◌<◌, arith, eqb, ℤ, pos, length, eqb-true}
+use lib.ListN.{length-replicate}
 use Rattle.std.specs.Array.{list_steps}
 use Rattle.std.specs.Iterator.{Yields, CallableAtEachTurn}
 use Rattle.std.proofs.lemmas.Fn.{serves_by}

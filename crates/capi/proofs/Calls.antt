@@ -1,11 +1,5 @@
--- The calls of a frame sheet and of a record, case by case. Assumes nothing.
-use mathlib.Core.Path.{◌≡◌}
-use mathlib.Core.Bool.{true}
-use mathlib.Core.List.{List}
-use Prim.Native.Nat.{ℕ}
-use lib.ListN.{length}
-use lib.Dec.{eqb}
-use borrow.Author.Tests.{eq-eqb, ne_eqb, eqb-true}
+-- The calls of a frame sheet and of a record, case by case.
+use Rattle.std.proofs.Common.{◌≡◌, true, List, ℕ, length, eqb, eq-eqb, ne_eqb, eqb-true}
 use Rattle.std.specs.Array.{IsWholeChunk}
 use Rattle.std.proofs.lemmas.Bool.{and_parts, false_from_ne_true}
 use Rattle.state.specs.declared.State.{State}

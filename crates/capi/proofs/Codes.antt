@@ -1,10 +1,5 @@
--- The outcomes of the calls, and what their places lie in, so that number and place go into one number. Assumes nothing.
-use mathlib.Core.Path.{◌≡◌, refl}
-use mathlib.Core.Bool.{Bool, true, false}
-use mathlib.Core.List.{List}
-use Prim.Native.Nat.{ℕ, ◌≤◌, ◌<◌}
-use lib.IntN.{ℤ}
-use lib.ListN.{length}
+-- The outcomes of the calls, and what their places lie in, so that number and place go into one number.
+use Rattle.std.proofs.Common.{◌≡◌, refl, Bool, true, false, List, ℕ, ◌≤◌, ◌<◌, ℤ, length}
 use Rattle.outcome.specs.Outcome.{Outcome, place_of, is_accepted}
 use Rattle.outcome.specs.Checks.{first_met}
 use Rattle.outcome.proofs.Checks.{placed_append, none_placed, place_low}

@@ -1,10 +1,5 @@
--- The frame calls that take past energies, of an index sheet and of an erased sheet, case by case. Assumes nothing.
-use mathlib.Core.Path.{◌≡◌}
-use mathlib.Core.Bool.{true}
-use mathlib.Core.List.{List}
-use Prim.Native.Nat.{ℕ}
-use lib.ListN.{length}
-use borrow.Author.Tests.{eq-eqb, eqb-true}
+-- The frame calls that take past energies, of an index sheet and of an erased sheet, case by case.
+use Rattle.std.proofs.Common.{◌≡◌, true, List, ℕ, length, eq-eqb, eqb-true}
 use Rattle.std.specs.Array.{IsWholeChunk}
 use Rattle.std.proofs.lemmas.Bool.{and_parts, false_from_ne_true}
 use Rattle.mr74.specs.declared.EnergiesAnswer.{EnergiesAnswer}

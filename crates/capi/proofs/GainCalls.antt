@@ -1,12 +1,5 @@
--- The call of one gain index, case by case. Assumes nothing.
-use mathlib.Core.Path.{◌≡◌}
-use mathlib.Core.Bool.{true}
-use mathlib.Core.List.{List}
-use Prim.Native.Nat.{ℕ}
-use lib.Dec.{eqb}
-use lib.IntN.{ℤ}
-use lib.ListN.{length}
-use borrow.Author.Tests.{eq-eqb, eqb-true}
+-- The call of one gain index, case by case.
+use Rattle.std.proofs.Common.{◌≡◌, true, List, ℕ, eqb, ℤ, length, eq-eqb, eqb-true}
 use Rattle.std.specs.Array.{IsWholeChunk}
 use Rattle.std.proofs.lemmas.Bool.{and_parts, false_from_ne_true}
 use Rattle.coding.specs.Bytes.{words}

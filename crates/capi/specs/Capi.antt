@@ -1,6 +1,6 @@
 -- The frame call, the reader and the writer over bytes; the calls that take past energies are in Energies.antt, Indexed.antt and Erased.antt. Numbers of 16
 -- bits are two bytes, low byte first. A state is the bytes of a record's body.
-use Rattle.std.specs.Prelude.{◌≡◌, Bool, cond, ◌&&◌, List, [], ◌∷◌, ℕ, ◌+◌, ◌*◌, eqb, ℤ, pos, length, replicate}
+use Rattle.std.specs.Prelude.{◌≡◌, Bool, if◌then◌else◌, ◌&&◌, List, [], ◌∷◌, ℕ, ◌+◌, ◌*◌, ◌==◌, ℤ, pos, length, replicate}
 use Rattle.lists.specs.Parts.{joined}
 use Rattle.lpc.specs.declared.Rows.{Rows}
 use Rattle.state.specs.declared.State.{State}
@@ -32,7 +32,7 @@ places_length = 4
 
 -- a lent state, rows and places have their lengths
 abbrev pub fits : ℕ → ℕ → ℕ → Bool
-fits state rows places = eqb state state_length && (eqb rows rows_length && eqb places places_length)
+fits state rows places = state == state_length && (rows == rows_length && places == places_length)
 
 -- ---- numbers and states
 -- returned where something lent that no refusal speaks of, as state, rows and places, has another length than its own: no number of the paper's. Nothing
@@ -46,7 +46,7 @@ code_of o = number_of o + 256 * place_of o
 
 -- the numbers of lent bytes, of which `count` are wanted: none where the bytes have another length, which the calls refuse
 abbrev pub lent_numbers : ℕ → List ℕ → List ℤ
-lent_numbers count bytes = cond (eqb (length bytes) (2 * count)) (words bytes) []
+lent_numbers count bytes = if length bytes == 2 * count then words bytes else []
 
 abbrev pub state_in : List ℕ → State
 state_in bytes = state_of (words bytes)
@@ -60,14 +60,14 @@ sheet_in sheet = lent_numbers 182 sheet
 
 -- the room for samples in a lent output: none where it has another length, which the frame call refuses
 abbrev pub room_of : ℕ → ℕ
-room_of bytes = cond (eqb bytes out_length) sample_count 0
+room_of bytes = if bytes == out_length then sample_count else 0
 
 abbrev pub room_in : List ℕ → List ℤ
 room_in out = replicate (room_of (length out)) (pos 0)
 
 -- the lent output after the call: a refused one leaves it
 abbrev pub out_after : CallResult → List ℕ → List ℕ
-out_after c out = cond (is_accepted c.answer.outcome) (bytes_of c.lent) out
+out_after c out = if is_accepted c.answer.outcome then bytes_of c.lent else out
 
 -- the four rows one after another
 abbrev pub row_bytes : Rows → List ℕ
@@ -92,9 +92,9 @@ frame_after c out =
 
 unfoldable pub frame_bytes : List ℕ → List ℕ → List ℕ → List ℕ → List ℕ → FrameReturn
 frame_bytes sheet state out rows places =
-    cond (fits (length state) (length rows) (length places))
-    (frame_after (frame_call (sheet_in sheet) (state_in state) (room_in out)) out)
-    (frame_return unfit state out rows places)
+    if fits (length state) (length rows) (length places)
+    then frame_after (frame_call (sheet_in sheet) (state_in state) (room_in out)) out
+    else frame_return unfit state out rows places
 
 -- ---- the reader
 -- the returned number, the lent state, and the lent number: the length of the note, which is what the record begins with
@@ -109,9 +109,9 @@ read_return code state note = record { code = code; state = state; note = note }
 unfoldable pub read_bytes : List ℕ → List ℕ → ℕ → ReadReturn
 read_bytes bytes state note =
     let t = read_call bytes in
-    cond (eqb (length state) state_length)
-    (read_return (code_of t.answer.outcome) (state_bytes t.answer.state) (length t.note))
-    (read_return unfit state note)
+    if length state == state_length
+    then read_return (code_of t.answer.outcome) (state_bytes t.answer.state) (length t.note)
+    else read_return unfit state note
 
 -- ---- the writer
 -- the returned number, and the lent record
@@ -125,7 +125,7 @@ write_return code lent = record { code = code; lent = lent }
 unfoldable pub write_bytes : List ℕ → List ℕ → WriteReturn
 write_bytes state lent =
     let w = write_call (state_in state) lent in
-    cond (eqb (length state) state_length) (write_return (code_of w.outcome) w.lent) (write_return unfit lent)
+    if length state == state_length then write_return (code_of w.outcome) w.lent else write_return unfit lent
 
 -- ---- what a caller may rely on; the theorem is `refused_unchanged` in proofs/Unchanged.antt
 -- a frame call that returns another number than 0 leaves the lent state and output as they were

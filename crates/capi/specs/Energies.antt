@@ -1,6 +1,6 @@
 -- What a frame call that takes the four past energies, newest first, returns and leaves over bytes: the calls of an index sheet (Indexed.antt) and of an
 -- erased sheet (Erased.antt).
-use Rattle.std.specs.Prelude.{◌≡◌, Bool, cond, ◌&&◌, List, ℕ, ◌*◌, eqb, length}
+use Rattle.std.specs.Prelude.{◌≡◌, Bool, if◌then◌else◌, ◌&&◌, List, ℕ, ◌*◌, ◌==◌, length}
 use Rattle.gain.specs.declared.GainDecoder.{GainDecoder}
 use Rattle.coding.specs.Bytes.{bytes_of}
 use Rattle.mr74.specs.Frame.{CallResult, call_result, EnergiesResult}
@@ -25,7 +25,7 @@ energies_return frame energies = record { frame = frame; energies = energies }
 
 -- state, rows, places and energies have their lengths
 abbrev pub energies_fits : ℕ → ℕ → ℕ → ℕ → Bool
-energies_fits state rows places energies = fits state rows places && eqb energies energies_length
+energies_fits state rows places energies = fits state rows places && energies == energies_length
 
 -- what a frame call gives of it
 abbrev pub frame_result : EnergiesResult → CallResult
@@ -38,9 +38,9 @@ energies_after c out = energies_return (frame_after (frame_result c) out) (energ
 -- of a call, and of what was lent: state, output, rows, places and energies
 unfoldable pub energies_bytes : EnergiesResult → List ℕ → List ℕ → List ℕ → List ℕ → List ℕ → EnergiesReturn
 energies_bytes c state out rows places energies =
-    cond (energies_fits (length state) (length rows) (length places) (length energies))
-    (energies_after c out)
-    (energies_return (frame_return unfit state out rows places) energies)
+    if energies_fits (length state) (length rows) (length places) (length energies)
+    then energies_after c out
+    else energies_return (frame_return unfit state out rows places) energies
 
 -- ---- what a caller may rely on: another number than 0 was returned, and so the lent state, output and energies are as they were
 abbrev pub LentUnchanged : EnergiesReturn → List ℕ → List ℕ → List ℕ → Type 0

@@ -1,6 +1,6 @@
 -- The calls that take indices of gains over bytes: the frame call of an index sheet, and the call of one index. Both are lent the tables of logarithm and
 -- power, and the four past energies, newest first.
-use Rattle.std.specs.Prelude.{◌≡◌, Bool, cond, ◌&&◌, List, [], ◌∷◌, ℕ, ◌*◌, eqb, ℤ, length}
+use Rattle.std.specs.Prelude.{◌≡◌, Bool, if◌then◌else◌, ◌&&◌, List, [], ◌∷◌, ℕ, ◌*◌, ◌==◌, ℤ, length}
 use Rattle.gain.specs.declared.Gains.{Gains}
 use Rattle.gain.specs.Call.{gain_call}
 use Rattle.coding.specs.Bytes.{words, bytes_of, Bytes}
@@ -44,14 +44,14 @@ gain_return code energies gains = record { code = code; energies = energies; gai
 
 -- innovation, energies and gains have their lengths
 abbrev pub gain_fits : ℕ → ℕ → ℕ → Bool
-gain_fits innovation energies gains = eqb innovation innovation_length && (eqb energies energies_length && eqb gains gains_length)
+gain_fits innovation energies gains = innovation == innovation_length && (energies == energies_length && gains == gains_length)
 
 unfoldable pub gain_bytes : ℤ → List ℕ → List ℕ → List ℕ → List ℕ → List ℕ → GainReturn
 gain_bytes index innovation logs pows energies gains =
     let a = gain_call (table_in logs) (table_in pows) index (words innovation) (words energies) in
-    cond (gain_fits (length innovation) (length energies) (length gains))
-    (gain_return (code_of a.outcome) (energy_bytes a.gains.next) (gain_pair_bytes a.gains))
-    (gain_return unfit energies gains)
+    if gain_fits (length innovation) (length energies) (length gains)
+    then gain_return (code_of a.outcome) (energy_bytes a.gains.next) (gain_pair_bytes a.gains)
+    else gain_return unfit energies gains
 
 -- ---- what a caller may rely on; the theorems are `indexed_unchanged` and `gain_unchanged` in proofs/Unchanged.antt
 -- a frame call of an index sheet that returns another number than 0 leaves the lent state, output and energies as they were

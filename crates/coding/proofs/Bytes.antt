@@ -1,17 +1,6 @@
--- Numbers of 16 bits and their bytes: one number, loops over them, and both ways after one another. Assumes nothing.
-use mathlib.Core.Path.{◌≡◌, refl, ap, ap₂, sym, ◌∙◌}
-use mathlib.Core.Bool.{Bool, true, false}
-use mathlib.Core.List.{List, [], ◌∷◌, append_assoc}
-use Prim.Native.Nat.{ℕ, zero, suc, ◌+◌, ◌-◌, ◌*◌, ◌/◌, ◌%◌, ◌^◌, ◌≤◌, ◌<◌}
-use native.Mathlib.Omega.{arith}
-use lib.Dec.{ltb}
-use lib.IntN.{ℤ, pos, negsuc}
-use lib.ListN.{length, take, set, get_or, length-set}
-use lib.Seq.{take_all}
+-- Numbers of 16 bits and their bytes: one number, loops over them, and both ways after one another.
+use Rattle.std.proofs.Common.{◌≡◌, refl, ap, ap₂, sym, ◌∙◌, Bool, true, false, List, [], ◌∷◌, append_assoc, ℕ, zero, suc, ◌+◌, ◌-◌, ◌*◌, ◌/◌, ◌%◌, ◌^◌, ◌≤◌, ◌<◌, arith, ltb, ℤ, pos, negsuc, length, take, set, get_or, length-set, take_all, ltb-false, lt-ltb, le-ltb, w16, to_z, of_z, SFits}
 use lib.Signed.{mag}
-use borrow.Author.Tests.{ltb-false, lt-ltb, le-ltb}
-use mir.Syntax.{w16}
-use mir.Val.{to_z, of_z, SFits}
 use Rattle.std.proofs.lemmas.List.{take_more, take_more_set}
 use Rattle.std.specs.Int.{to_le_bytes}
 use Rattle.lists.specs.Lists.{at, minus}

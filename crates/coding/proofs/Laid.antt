@@ -1,10 +1,5 @@
--- The bytes of numbers, part by part. Assumes nothing.
-use mathlib.Core.Path.{◌≡◌, refl, ap, ap₂, sym, ◌∙◌}
-use mathlib.Core.List.{List, [], ◌∷◌, ◌++◌, append-nil}
-use Prim.Native.Nat.{ℕ, ◌*◌}
-use native.Mathlib.Omega.{arith}
-use lib.IntN.{ℤ}
-use lib.ListN.{length}
+-- The bytes of numbers, part by part.
+use Rattle.std.proofs.Common.{◌≡◌, refl, ap, ap₂, sym, ◌∙◌, List, [], ◌∷◌, ◌++◌, append-nil, ℕ, ◌*◌, arith, ℤ, length}
 use Rattle.lists.specs.Parts.{joined}
 use Rattle.coding.specs.Bytes.{bytes_of}
 

@@ -1,14 +1,6 @@
--- A part of bytes is a part of their numbers. Assumes nothing.
-use mathlib.Core.Path.{◌≡◌, refl, ap, ap₂, sym, ◌∙◌}
-use mathlib.Core.List.{List, [], ◌∷◌, ◌++◌, map, append_assoc, append-nil}
-use Prim.Native.Nat.{ℕ, zero, suc, ◌+◌, ◌*◌, ◌^◌, ◌<◌}
-use native.Mathlib.Omega.{arith}
-use lib.IntN.{ℤ}
-use lib.ListN.{length, take, drop, get_or, take-append-drop}
-use lib.Seq.{take_at, drop_at, take_all}
+-- A part of bytes is a part of their numbers.
+use Rattle.std.proofs.Common.{◌≡◌, refl, ap, ap₂, sym, ◌∙◌, List, [], ◌∷◌, ◌++◌, map, append_assoc, append-nil, ℕ, zero, suc, ◌+◌, ◌*◌, ◌^◌, ◌<◌, arith, ℤ, length, take, drop, get_or, take-append-drop, take_at, drop_at, take_all, w16, to_z, of_z}
 use lib.Signed.{mag}
-use mir.Syntax.{w16}
-use mir.Val.{to_z, of_z}
 use Rattle.lists.specs.Lists.{at}
 use Rattle.lists.specs.Parts.{cut}
 use Rattle.lists.proofs.Parts.{cut_joined}

@@ -1,10 +1,10 @@
 -- Numbers of 16 bits as bytes: two's complement, low byte first.
-use Rattle.std.specs.Prelude.{cond, List, [], ◌∷◌, ℕ, ◌+◌, ◌-◌, ◌*◌, ◌/◌, ◌%◌, ◌<◌, ltb, ℤ, pos, negsuc, get_or}
+use Rattle.std.specs.Prelude.{if◌then◌else◌, List, [], ◌∷◌, ℕ, ◌+◌, ◌-◌, ◌*◌, ◌/◌, ◌%◌, ◌<◌, nat_lt, ℤ, pos, negsuc, slice_index}
 use Rattle.lists.specs.Lists.{minus}
 
 -- the number whose sixteen bits are n: n, or n − 65536 from 32768 on
 abbrev pub signed16 : ℕ → ℤ
-signed16 n = cond (ltb n 32768) (pos n) (minus (65536 - n))
+signed16 n = if nat_lt n 32768 then pos n else minus (65536 - n)
 
 -- the sixteen bits of a number: x, or 65536 + x where it is negative
 abbrev pub bits16 : ℤ → ℕ
@@ -27,4 +27,4 @@ bytes_of (x ∷ xs) = bits16 x % 256 ∷ bits16 x / 256 ∷ bytes_of xs
 
 -- every number is a byte
 abbrev pub Bytes : List ℕ → Type 0
-Bytes b = (i : ℕ) → get_or b i 0 < 256
+Bytes b = (i : ℕ) → slice_index b i < 256

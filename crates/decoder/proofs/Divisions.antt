@@ -1,14 +1,6 @@
--- A subframe tells one quotient where `enhancement_divides` says so, and else none; the subframes of a frame tell as many together. Assumes nothing.
-use mathlib.Core.Path.{◌≡◌, refl, sym, ap₂, ◌∙◌}
-use mathlib.Core.Bool.{Bool, true, false, cond, ◌&&◌}
-use mathlib.Core.List.{List, [], ◌∷◌, flat_map}
-use Prim.Native.Nat.{ℕ, min, ◌+◌, ◌<◌}
-use native.Mathlib.Omega.{arith}
-use lib.Dec.{lit<}
-use lib.IntN.{ℤ, pos, negsuc, ◌*ℤ◌}
-use lib.ListN.{length, length-append}
-use lib.Signed.{◌≤ℤ◌, ◌<ℤ◌, lt_z}
-use mir.Syntax.{w16}
+-- A subframe tells one quotient where `enhancement_divides` says so, and else none; the subframes of a frame tell as many together.
+use Rattle.std.proofs.Common.{◌≡◌, refl, sym, ap₂, ◌∙◌, Bool, true, false, cond, ◌&&◌, List, [], ◌∷◌, flat_map, ℕ, min, ◌+◌, ◌<◌, arith, lit<, ℤ, pos, negsuc, ◌*ℤ◌, length, length-append, ◌≤ℤ◌, ◌<ℤ◌, w16}
+use lib.Signed.{lt_z}
 use Rattle.lists.specs.Lists.{one_if, count}
 use Rattle.basicop.specs.Ops.{clamp, sub, shl}
 use Rattle.basicop.specs.Divided.{undivided}

@@ -1,13 +1,6 @@
--- The retries of a subframe are what document 01 says. Assumes nothing.
-use Prim.Native.Nat.{ℕ, zero, suc}
-use mathlib.Core.Path.{◌≡◌, refl, sym, ap, ◌∙◌}
-use mathlib.Core.Bool.{Bool, true, false, cond}
-use mathlib.Core.List.{List, [], ◌∷◌}
-use lib.IntN.{ℤ, pos, negsuc}
-use lib.ListN.{length, drop}
-use lib.Signed.{◌≤ℤ◌, le_z_yes}
-use mir.Syntax.{w16}
-use mir.Val.{SFits}
+-- The retries of a subframe are what document 01 says.
+use Rattle.std.proofs.Common.{ℕ, zero, suc, ◌≡◌, refl, sym, ap, ◌∙◌, Bool, true, false, cond, List, [], ◌∷◌, ℤ, pos, negsuc, length, drop, ◌≤ℤ◌, w16, SFits}
+use lib.Signed.{le_z_yes}
 use Rattle.lists.specs.Lists.{at}
 use Rattle.lists.proofs.Entries.{each_append, each_drop}
 use Rattle.basicop.specs.Ops.{quartered}

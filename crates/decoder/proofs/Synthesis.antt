@@ -1,11 +1,5 @@
--- The synthesis of a subframe, by the place that its first pass gives. Assumes nothing.
-use Prim.Native.Nat.{ℕ, ◌≤◌, ◌<◌}
-use mathlib.Core.Path.{◌≡◌, ◌∙◌}
-use mathlib.Core.Bool.{true, false}
-use mathlib.Core.List.{List}
-use borrow.Author.Tests.{lt-ltb, le-ltb}
-use lib.IntN.{ℤ}
-use lib.ListN.{length}
+-- The synthesis of a subframe, by the place that its first pass gives.
+use Rattle.std.proofs.Common.{ℕ, ◌≤◌, ◌<◌, ◌≡◌, ◌∙◌, true, false, List, lt-ltb, le-ltb, ℤ, length}
 use Rattle.basicop.specs.Ops.{quartered}
 use Rattle.synthesis.specs.Synthesis.{overflowed, overflowed_at, previewed, filtered}
 use Rattle.synthesis.proofs.Samples.{overflowed_by_at, previewed_all}

@@ -1,5 +1,5 @@
 -- Enhancement of the excitation: Decoder_amr of TS 26.073, MR74 (TS 26.090, 6.1).
-use Rattle.std.specs.Prelude.{cond, List, ℤ, pos}
+use Rattle.std.specs.Prelude.{if◌then◌else◌, List, ℤ, pos}
 use Rattle.std.specs.Int.Signed.{lt_z}
 use Rattle.lists.specs.Lists.{pairwise}
 use Rattle.basicop.specs.Ops.{add, sub, mult, shl, l_mult, round}
@@ -18,4 +18,4 @@ enhanced g pitch exc v = pairwise (enhanced_at g pitch) exc v
 unfoldable pub first_excitation : List ℤ → ℤ → List ℤ → Divided (List ℤ)
 first_excitation v pitch exc =
     let g = shl (sharpening pitch) (pos 1) in
-    cond (lt_z (pos 0) (sub g (pos 16384))) (agc2 exc (enhanced g pitch exc v)) (undivided exc)
+    if lt_z (pos 0) (sub g (pos 16384)) then agc2 exc (enhanced g pitch exc v) else undivided exc

@@ -1,5 +1,5 @@
 -- The synthesis of a subframe with its retry: Decoder_amr of TS 26.073; document 01, "Synthesis output". By clamped steps.
-use Rattle.std.specs.Prelude.{Bool, true, false, not, cond, List, ℕ, eqb, ℤ}
+use Rattle.std.specs.Prelude.{Bool, true, false, not, if◌then◌else◌, List, ℕ, ◌==◌, ℤ}
 use Rattle.basicop.specs.Ops.{quartered}
 use Rattle.synthesis.specs.Synthesis.{samples, overflowed, overflowed_at}
 use Rattle.excitation.specs.Excitation.{taking}
@@ -22,7 +22,7 @@ pub record SynthesisResult : Type 0 where
 
 -- document 02, 1/13: "A flag is then 'not 40'", of the place of a subframe's first pass
 abbrev pub flag_of : ℕ → Bool
-flag_of place = not (eqb place 40)
+flag_of place = not (place == 40)
 
 -- nothing clamped: the samples of the first pass
 abbrev pub unretried_result : SynthesisInput → List ℤ → List ℤ → SynthesisResult
@@ -47,7 +47,7 @@ retried_result f history past =
     }
 
 unfoldable pub synthesis_result : SynthesisInput → List ℤ → List ℤ → SynthesisResult
-synthesis_result f history past = cond (overflowed 10 f.row f.excitation history) (retried_result f history past) (unretried_result f history past)
+synthesis_result f history past = if overflowed 10 f.row f.excitation history then retried_result f history past else unretried_result f history past
 
 -- what the code gives of it
 abbrev pub synthesis_output : SynthesisResult → SynthesisOutput

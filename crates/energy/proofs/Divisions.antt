@@ -1,11 +1,5 @@
--- agc2 and agc tell one quotient where `gain_divides` says so, and else none. Assumes nothing.
-use mathlib.Core.Path.{◌≡◌, refl, ◌∙◌}
-use mathlib.Core.Bool.{Bool, true, false, cond, not, ◌&&◌}
-use mathlib.Core.List.{List, []}
-use Prim.Native.Nat.{ℕ}
-use native.Mathlib.Omega.{arith}
-use lib.IntN.{ℤ, pos}
-use lib.ListN.{length, length-append}
+-- agc2 and agc tell one quotient where `gain_divides` says so, and else none.
+use Rattle.std.proofs.Common.{◌≡◌, refl, ◌∙◌, Bool, true, false, cond, not, ◌&&◌, List, [], ℕ, arith, ℤ, pos, length, length-append}
 use Rattle.lists.specs.Lists.{eq_z, one_if}
 use Rattle.basicop.specs.Divided.{Divided, undivided, after}
 use Rattle.energy.specs.Energy.{energy}

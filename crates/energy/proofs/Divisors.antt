@@ -1,8 +1,5 @@
--- Every divisor of agc2 and agc lies in 16384..=32767, for samples of any size and number. Assumes nothing.
-use mathlib.Core.Path.{◌≡◌, refl}
-use mathlib.Core.Bool.{Bool, true, false}
-use mathlib.Core.List.{List, []}
-use lib.IntN.{ℤ, pos}
+-- Every divisor of agc2 and agc lies in 16384..=32767, for samples of any size and number.
+use Rattle.std.proofs.Common.{◌≡◌, refl, Bool, true, false, List, [], ℤ, pos}
 use Rattle.lists.specs.Lists.{eq_z, Every}
 use Rattle.lists.proofs.Entries.{every_append}
 use Rattle.basicop.specs.Ops.{div_s}

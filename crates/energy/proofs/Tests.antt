@@ -1,14 +1,8 @@
--- Equality of integers as a test; what holds of both arms holds of a choice; a shift to the right, in the code. Assumes nothing.
-use mathlib.Core.Path.{◌≡◌, refl, ap, subst}
-use Prim.Native.Nat.{ℕ, zero, suc, ◌<◌, ◌^◌}
-use mathlib.Core.Bool.{Bool, true, false, cond}
-use borrow.Author.Tests.{ne_eqb}
-use lib.Dec.{T}
-use lib.IntN.{ℤ, pos, negsuc}
-use lib.Signed.{mag, shr_z, ◌≤ℤ◌, ◌<ℤ◌}
+-- Equality of integers as a test; what holds of both arms holds of a choice; a shift to the right, in the code.
+use Rattle.std.proofs.Common.{◌≡◌, refl, ap, subst, ℕ, zero, suc, ◌<◌, ◌^◌, Bool, true, false, cond, ne_eqb, T, ℤ, pos, negsuc, ◌≤ℤ◌, ◌<ℤ◌, SFits, to_z, of_z, to_z-of_z}
+use lib.Signed.{mag, shr_z}
 use mir.Syntax.{Width}
-use mir.Val.{SFits, hbits, to_z, of_z}
-use mir.Facts.{to_z-of_z}
+use mir.Val.{hbits}
 use Rattle.lists.specs.Lists.{eq_z}
 use Rattle.lists.proofs.Signed.{back}
 use Rattle.lists.proofs.Table.{eq_z→eq}

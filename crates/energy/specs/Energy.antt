@@ -1,5 +1,5 @@
 -- energy_new of TS 26.073: the energy of a subframe, from its doubled squares.
-use Rattle.std.specs.Prelude.{cond, ℤ, pos}
+use Rattle.std.specs.Prelude.{if◌then◌else◌, ℤ, pos}
 use mathlib.Core.List.{List, foldl}
 use Rattle.lists.specs.Lists.{eq_z}
 use Rattle.basicop.specs.Ops.{quartered, l_mac, l_shr}
@@ -12,4 +12,4 @@ squares xs = foldl (λ (s x : ℤ). l_mac s x x) (pos 0) xs
 unfoldable pub energy : List ℤ → ℤ
 energy xs =
     let s = squares xs in
-    cond (eq_z s (pos 2147483647)) (squares (quartered xs)) (l_shr s (pos 4))
+    if eq_z s (pos 2147483647) then squares (quartered xs) else l_shr s (pos 4)

@@ -1,6 +1,6 @@
 -- agc2 and agc of TS 26.073 (TS 26.090, 6.1 and 6.2.1): samples are brought to the energy of others, by one gain, or by a gain that is smoothed
 -- from sample to sample.
-use Rattle.std.specs.Prelude.{cond, List, map, ℕ, suc, ℤ, pos, length}
+use Rattle.std.specs.Prelude.{if◌then◌else◌, List, map, ℕ, suc, ℤ, pos, length}
 use Rattle.lists.specs.Lists.{eq_z, at, iter, tab}
 use Rattle.basicop.specs.Ops.{add, sub, mult, l_mult, l_shl, l_shr, extract_h, round, norm_l}
 use Rattle.basicop.specs.Divided.{Divided, undivided, divided, after}
@@ -30,9 +30,9 @@ gain_from out into q = round (l_shl (inverse_root (ratio out into q)) (pos 9))
 -- 0 where into is 0
 unfoldable pub energy_gain : ℤ → ℤ → Divided ℤ
 energy_gain out into =
-    cond (eq_z into (pos 0))
-    (undivided (pos 0))
-    (after (divided (gain_out out) (gain_in into)) (λ (q : ℤ). undivided (gain_from out into q)))
+    if eq_z into (pos 0)
+    then undivided (pos 0)
+    else after (divided (gain_out out) (gain_in into)) (λ (q : ℤ). undivided (gain_from out into q))
 
 -- a sample by a gain
 abbrev pub scaled_by : ℤ → ℤ → ℤ
@@ -41,9 +41,9 @@ scaled_by gain x = extract_h (l_shl (l_mult x gain) (pos 3))
 -- ---- agc2: out is brought to the energy of into. Where its own energy is 0 nothing happens
 unfoldable pub agc2 : List ℤ → List ℤ → Divided (List ℤ)
 agc2 into out =
-    cond (eq_z (energy out) (pos 0))
-    (undivided out)
-    (after (energy_gain (energy out) (energy into)) (λ (gain : ℤ). undivided (map (scaled_by gain) out)))
+    if eq_z (energy out) (pos 0)
+    then undivided out
+    else after (energy_gain (energy out) (energy into)) (λ (gain : ℤ). undivided (map (scaled_by gain) out))
 
 -- ---- agc, with a factor of 29491 (0.9 in Q15)
 abbrev pub target : ℤ → ℤ
@@ -67,9 +67,9 @@ controlled goal gain out =
 -- An output energy of 0 leaves the samples and sets the gain to 0
 unfoldable pub agc : ℤ → List ℤ → List ℤ → Divided Controlled
 agc gain into out =
-    cond (eq_z (energy out) (pos 0))
-    (undivided (record { samples = out; control = record { previous_gain = pos 0 } }))
-    (after (energy_gain (energy out) (energy into)) (λ (g : ℤ). undivided (controlled (target g) gain out)))
+    if eq_z (energy out) (pos 0)
+    then undivided (record { samples = out; control = record { previous_gain = pos 0 } })
+    else after (energy_gain (energy out) (energy into)) (λ (g : ℤ). undivided (controlled (target g) gain out))
 
 -- samples, and the gain control after them
 abbrev pub together : List ℤ → GainControl → Controlled

@@ -1,5 +1,5 @@
 -- Inv_sqrt of TS 26.073: 1 / sqrt(x), between the entries of a table.
-use Rattle.std.specs.Prelude.{cond, List, [], ◌∷◌, ℤ, pos}
+use Rattle.std.specs.Prelude.{if◌then◌else◌, List, [], ◌∷◌, ℤ, pos}
 use Rattle.std.specs.Int.Signed.{le_z}
 use Rattle.lists.specs.Lists.{eq_z}
 use Rattle.basicop.specs.Ops.{low_bits, add, sub, shr, l_shl, l_shr, norm_l}
@@ -19,7 +19,7 @@ inverse_table =
 unfoldable pub root_scaled : ℤ → ℤ → ℤ
 root_scaled x n =
     let y = l_shl x n in
-    cond (eq_z (low_bits 1 (sub (pos 30) n)) (pos 0)) (l_shr y (pos 1)) y
+    if eq_z (low_bits 1 (sub (pos 30) n)) (pos 0) then l_shr y (pos 1) else y
 
 -- where that lies in the table
 abbrev pub root_position : ℤ → Position
@@ -33,4 +33,4 @@ unfoldable pub inverse_root : ℤ → ℤ
 inverse_root x =
     let n = norm_l x in
     let y = root_scaled x n in
-    cond (le_z x (pos 0)) (pos 1073741823) (l_shr (interpolated inverse_table (root_position y)) (root_shift n))
+    if le_z x (pos 0) then pos 1073741823 else l_shr (interpolated inverse_table (root_position y)) (root_shift n)

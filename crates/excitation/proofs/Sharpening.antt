@@ -1,13 +1,5 @@
--- The loop that sharpens an innovation in place, from the lag t on. Assumes nothing.
-use Prim.Native.Nat.{ℕ, zero, suc, min, ◌+◌, ◌-◌, ◌≤◌, ◌<◌}
-use mathlib.Core.Path.{◌≡◌, refl, ◌∙◌}
-use mathlib.Core.List.{List, []}
-use native.Mathlib.Nat.{le_refl}
-use native.Mathlib.Omega.{arith}
-use borrow.Author.Tests.{lt-ltb, le-ltb}
-use lib.IntN.{ℤ, pos}
-use lib.ListN.{length, set, take}
-use lib.Seq.{get_or-take, get_or-set_other}
+-- The loop that sharpens an innovation in place, from the lag t on.
+use Rattle.std.proofs.Common.{ℕ, zero, suc, min, ◌+◌, ◌-◌, ◌≤◌, ◌<◌, ◌≡◌, refl, ◌∙◌, List, [], le_refl, arith, lt-ltb, le-ltb, ℤ, pos, length, set, take, get_or-take, get_or-set_other}
 use Rattle.lists.specs.Lists.{at, iter, grow}
 use Rattle.lists.proofs.Grow.{Grown, grown_none, grown_keep, grown_more, grown_done}
 use Rattle.basicop.specs.Ops.{add, mult}

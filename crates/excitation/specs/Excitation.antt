@@ -1,19 +1,19 @@
 -- The excitation of a subframe: Decoder_amr of TS 26.073, good frame, MR74 (TS 26.090, 6.1).
-use Rattle.std.specs.Prelude.{cond, List, [], ◌++◌, ℕ, ℤ, pos, ◌-ℤ◌, drop}
+use Rattle.std.specs.Prelude.{if◌then◌else◌, List, [], ◌++◌, ℕ, ℤ, pos, ◌-ℤ◌, drop}
 use Rattle.std.specs.Int.Signed.{lt_z}
 use Rattle.lists.specs.Lists.{at, entry, iter, grow, pairwise}
 use Rattle.basicop.specs.Ops.{add, sub, mult, shl, l_mult, l_mac, l_shl, round}
 
 -- ---- pitch sharpening: for i from the lag t on, code[i] = add (code[i], mult (code[i - t], g)), feeding on itself, g the sharpening doubled
 abbrev pub sharpened_at : List ℤ → ℤ → ℤ → ℕ → List ℤ → ℤ
-sharpened_at code t g i y = cond (lt_z (pos i) t) (at code i) (add (at code i) (mult (entry y (pos i -ℤ t)) g))
+sharpened_at code t g i y = if lt_z (pos i) t then at code i else add (at code i) (mult (entry y (pos i -ℤ t)) g)
 
 unfoldable pub sharpened : List ℤ → ℤ → ℤ → List ℤ
 sharpened code t sharp = iter (grow (sharpened_at code t (shl sharp (pos 1)))) 40 []
 
 -- the sharpening that is carried on: the pitch gain, at most SHARPMAX
 unfoldable pub sharpening : ℤ → ℤ
-sharpening gain = cond (lt_z (pos 0) (sub gain (pos 13017))) (pos 13017) gain
+sharpening gain = if lt_z (pos 0) (sub gain (pos 13017)) then pos 13017 else gain
 
 -- ---- document 01's feedback: the excitation that is fed back, from the prediction v by the pitch gain (Q14) and the code by the code gain (Q1):
 -- two products, their sum, doubled, rounded

@@ -1,13 +1,7 @@
--- The checks of tables and of indices: what they have shown where they accept, and the places of their refusals. Assumes nothing.
-use mathlib.Core.Path.{◌≡◌, refl, subst}
-use mathlib.Core.Bool.{true}
-use mathlib.Core.List.{List, [], ◌∷◌}
-use Prim.Native.Nat.{ℕ, ◌≤◌, ◌<◌}
-use native.Mathlib.Omega.{arith}
-use borrow.Author.Tests.{ltb-false, not-false}
-use lib.IntN.{ℤ, pos, negsuc}
-use lib.ListN.{replicate, get_or-replicate}
-use lib.Signed.{◌≤ℤ◌}
+-- The checks of tables and of indices: what they have shown where they accept, and the places of their refusals.
+use Rattle.std.proofs.Common.{◌≡◌, refl, subst, true, List, [], ◌∷◌, ℕ, ◌≤◌, ◌<◌, arith, ltb-false, ℤ, pos, negsuc, replicate, ◌≤ℤ◌}
+use borrow.Author.Tests.{not-false}
+use lib.ListN.{get_or-replicate}
 use Rattle.std.specs.Prelude.{Ok}
 use Rattle.lists.specs.Lists.{at}
 use Rattle.basicop.proofs.Ints.{arith_ℤ}

@@ -1,15 +1,5 @@
--- A table by the two searches, as the code tests it, and what an accepted one is: `AcceptedTables`. Assumes nothing.
-use mathlib.Core.Path.{◌≡◌, refl, ap}
-use mathlib.Core.Bool.{Bool, true, false, cond, not, ◌&&◌}
-use mathlib.Core.List.{List, [], ◌∷◌}
-use Prim.Native.Nat.{ℕ, zero, suc, ◌≤◌, ◌<◌}
-use native.Mathlib.Numerals.{add-one}
-use native.Mathlib.Omega.{arith}
-use lib.Dec.{eqb, ltb, eqb→eq}
-use lib.IntN.{ℤ, pos, ◌-ℤ◌}
-use lib.ListN.{length, replicate}
-use lib.Signed.{◌≤ℤ◌}
-use borrow.Author.Tests.{eq-eqb, ne_eqb, ltb-true, ltb-false}
+-- A table by the two searches, as the code tests it, and what an accepted one is: `AcceptedTables`.
+use Rattle.std.proofs.Common.{◌≡◌, refl, ap, Bool, true, false, cond, not, ◌&&◌, List, [], ◌∷◌, ℕ, zero, suc, ◌≤◌, ◌<◌, add-one, arith, eqb, ltb, eqb→eq, ℤ, pos, ◌-ℤ◌, length, replicate, ◌≤ℤ◌, eq-eqb, ne_eqb, ltb-true, ltb-false}
 use borrow.Author.Differences.{sum_is_lem}
 use Rattle.std.specs.Prelude.{Some, None, is_some}
 use Rattle.lists.specs.Lists.{at}

@@ -1,7 +1,5 @@
--- What the call's checks come to, of what each group comes to. Assumes nothing.
-use mathlib.Core.Path.{◌≡◌, sym, ◌∙◌}
-use mathlib.Core.List.{List, [], ◌∷◌}
-use lib.IntN.{ℤ}
+-- What the call's checks come to, of what each group comes to.
+use Rattle.std.proofs.Common.{◌≡◌, sym, ◌∙◌, List, [], ◌∷◌, ℤ}
 use Rattle.std.specs.Prelude.{Ok, Err}
 use Rattle.outcome.specs.declared.Refusal.{Refusal}
 use Rattle.outcome.specs.Outcome.{Outcome}

@@ -1,7 +1,5 @@
--- What the definitions of the gains and of the call come to, of what each of their steps gives. Assumes nothing.
-use mathlib.Core.Path.{◌≡◌, refl}
-use mathlib.Core.List.{List}
-use lib.IntN.{ℤ}
+-- What the definitions of the gains and of the call come to, of what each of their steps gives.
+use Rattle.std.proofs.Common.{◌≡◌, refl, List, ℤ}
 use Rattle.std.specs.Prelude.{Ok, Err}
 use Rattle.lists.specs.Lists.{at}
 use Rattle.basicop.specs.declared.Q1.{Q1}

@@ -1,11 +1,6 @@
--- Neither gain is negative: `NeverNegative`, of any integers as innovation and energies. Assumes nothing.
-use mathlib.Core.List.{List, [], ◌∷◌}
-use Prim.Native.Nat.{suc}
-use native.Mathlib.Omega.{arith}
-use lib.IntN.{ℤ, pos, negsuc}
-use lib.Signed.{◌≤ℤ◌, le_z_yes}
-use mir.Syntax.{w16, w32}
-use mir.Val.{SFits}
+-- Neither gain is negative: `NeverNegative`, of any integers as innovation and energies.
+use Rattle.std.proofs.Common.{List, [], ◌∷◌, suc, arith, ℤ, pos, negsuc, ◌≤ℤ◌, w16, w32, SFits}
+use lib.Signed.{le_z_yes}
 use Rattle.basicop.specs.Ops.{asr, sub, l_mult, l_shr, extract_h}
 use Rattle.basicop.proofs.Ints.{arith_ℤ, le_in, ≤ℤ_trans, sfits_by}
 use Rattle.basicop.proofs.Naturals.{asr_pos, l_mult_pos, l_shl_pos}

@@ -1,5 +1,5 @@
 -- The call of one index (GainDecoder::decode): document 02, 5/13.
-use Rattle.std.specs.Prelude.{◌≡◌, true, cond, List, [], ◌∷◌, ◌++◌, ℤ, pos, replicate, ◌≤ℤ◌}
+use Rattle.std.specs.Prelude.{◌≡◌, true, if◌then◌else◌, List, [], ◌∷◌, ◌++◌, ℤ, pos, replicate, ◌≤ℤ◌}
 use Rattle.lists.specs.Lists.{minus}
 use Rattle.outcome.specs.Outcome.{is_accepted}
 use Rattle.outcome.specs.Checks.{Check, first_met}
@@ -23,7 +23,7 @@ no_gains energies = record { pitch = record { 0 = pos 0 }; code = record { 0 = p
 unfoldable pub gain_call : List ℤ → List ℤ → ℤ → List ℤ → List ℤ → GainAnswer
 gain_call logs pows index innovation energies =
     let o = first_met (decode_checks logs pows index) in
-    record { outcome = o; gains = cond (is_accepted o) (decoded_gains logs pows index innovation energies) (no_gains energies) }
+    record { outcome = o; gains = if is_accepted o then decoded_gains logs pows index innovation energies else no_gains energies }
 
 -- ---- "from it the code gain is never negative": of any index, innovation and energies, where the tables are accepted. The theorem is `never_negative` in
 -- proofs/Signs.antt

@@ -1,5 +1,5 @@
 -- What turns back the tables and the indices of gains: document 02, 5/13, 7 and 8.
-use Rattle.std.specs.Prelude.{◌≡◌, Bool, true, not, ◌&&◌, List, [], ◌∷◌, ℕ, ◌+◌, ◌<◌, eqb, ℤ, pos, length, replicate, ◌≤ℤ◌}
+use Rattle.std.specs.Prelude.{◌≡◌, Bool, true, not, ◌&&◌, List, [], ◌∷◌, ℕ, ◌+◌, ◌<◌, ◌==◌, ℤ, pos, length, replicate, ◌≤ℤ◌}
 use Rattle.lists.specs.Lists.{at}
 use Rattle.outcome.specs.declared.Refusal.TheVariants.{Table, GainIndex}
 use Rattle.outcome.specs.Outcome.{is_accepted}
@@ -8,8 +8,8 @@ use Rattle.outcome.specs.Checks.{Check, check, place_check, first_met, first_out
 -- 33 numbers that lie in 0..=32767 and never fall: none lies less than 0 above the one before it. Equal neighbours are fine
 unfoldable pub is_table : List ℤ → Bool
 is_table numbers =
-    eqb (length numbers) 33
-    && (eqb (first_outside numbers (replicate 33 (pos 32767))) 33 && eqb (first_close (pos 0) (pos 0) numbers) 33)
+    length numbers == 33
+    && (first_outside numbers (replicate 33 (pos 32767)) == 33 && first_close (pos 0) (pos 0) numbers == 33)
 
 -- 7: a lent table that is none; place 0 for the logarithm's, 1 for the power's
 abbrev pub table_checks : List ℤ → List ℤ → List Check

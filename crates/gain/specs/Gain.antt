@@ -1,7 +1,7 @@
 -- gc_pred, Dec_gain, gc_pred_update and gc_pred_average_limited of TS 26.073 at MR74 (TS 26.090, 6.1): the gains of a subframe, from their index, its
 -- sharpened innovation and the energies of the four subframes before it; and the energies after a subframe of an erased frame.
 -- logs, pows: the tables of Log2 and Pow2.
-use Rattle.std.specs.Prelude.{cond, List, [], ◌∷◌, ℕ, ℤ, pos, take}
+use Rattle.std.specs.Prelude.{if◌then◌else◌, List, [], ◌∷◌, ℕ, ℤ, pos, take}
 use Rattle.std.specs.Int.Signed.{lt_z}
 use Rattle.lists.specs.Lists.{minus, at, iter}
 use Rattle.basicop.specs.Ops.{add, sub, mult, l_mult, l_mac, l_shl, l_shr, extract_h, extract_l, l_extract, mpy_32_16}
@@ -61,7 +61,7 @@ min_energy = minus 14336
 unfoldable pub average_energy : List ℤ → ℤ
 average_energy energies =
     let average = mult (iter (λ (i : ℕ) (a : ℤ). add a (at energies i)) 4 (pos 0)) (pos 8192) in
-    cond (lt_z average min_energy) min_energy average
+    if lt_z average min_energy then min_energy else average
 
 -- it enters as an energy does
 abbrev pub concealed_energies : List ℤ → List ℤ

@@ -1,12 +1,6 @@
--- What the gains are scaled by: each entry of the two tables, and what stands past their ends, lies in 0..=32767. Assumes nothing.
-use mathlib.Core.Bool.{Bool, ◌&&◌}
-use mathlib.Core.List.{List, [], ◌∷◌}
-use Prim.Native.Nat.{ℕ, zero, suc}
-use lib.Dec.{T}
-use lib.IntN.{ℤ, pos, negsuc}
-use lib.Signed.{◌≤ℤ◌, le_z, le_z_yes}
-use mir.Syntax.{w16}
-use mir.Val.{SFits}
+-- What the gains are scaled by: each entry of the two tables, and what stands past their ends, lies in 0..=32767.
+use Rattle.std.proofs.Common.{Bool, ◌&&◌, List, [], ◌∷◌, ℕ, zero, suc, T, ℤ, pos, negsuc, ◌≤ℤ◌, w16, SFits}
+use lib.Signed.{le_z, le_z_yes}
 use Rattle.lists.specs.Lists.{at, entry, Every}
 use Rattle.lists.proofs.Table.{both_pass, every}
 use Rattle.basicop.proofs.Ints.{arith_ℤ, sfits_by}

@@ -1,9 +1,5 @@
--- A list of five by its entries, and with a number taken in. Assumes nothing.
-use mathlib.Core.Path.{◌≡◌, ap}
-use mathlib.Core.List.{List, [], ◌∷◌}
-use native.Mathlib.Omega.{arith}
-use lib.IntN.{ℤ, pos}
-use lib.ListN.{length}
+-- A list of five by its entries, and with a number taken in.
+use Rattle.std.proofs.Common.{◌≡◌, ap, List, [], ◌∷◌, arith, ℤ, pos, length}
 use Rattle.lists.specs.Lists.{at}
 use Rattle.lists.proofs.Entries.{four_entries}
 use Rattle.gain_concealment.specs.Concealment.{taking_in}

@@ -1,12 +1,6 @@
--- Gains that are not negative stay so, and concealed gains lie in 0..=32766: `concealed_kept`, `concealed_in_range`, `good_kept`. Assumes nothing.
-use mathlib.Core.Path.{◌≡◌, refl}
-use mathlib.Core.Bool.{Bool, true, false, cond}
-use mathlib.Core.List.{List, [], ◌∷◌}
-use Prim.Native.Nat.{ℕ, ◌*◌, ◌≤◌}
-use native.Mathlib.Nat.{mul-le-mul}
-use lib.IntN.{ℤ, pos, negsuc}
-use lib.ListN.{drop}
-use lib.Signed.{◌≤ℤ◌, lt_z, le_z_yes}
+-- Gains that are not negative stay so, and concealed gains lie in 0..=32766: `concealed_kept`, `concealed_in_range`, `good_kept`.
+use Rattle.std.proofs.Common.{◌≡◌, refl, Bool, true, false, cond, List, [], ◌∷◌, ℕ, ◌*◌, ◌≤◌, mul-le-mul, ℤ, pos, negsuc, drop, ◌≤ℤ◌}
+use lib.Signed.{lt_z, le_z_yes}
 use Rattle.lists.specs.Lists.{at, Every}
 use Rattle.lists.proofs.Entries.{every_append}
 use Rattle.basicop.specs.Ops.{mult}

@@ -1,15 +1,10 @@
--- `sorted`, of any list: the same numbers, rising, and from any arrangement the same list: `sorted_kept`, `median_of_any`. Assumes nothing.
-use mathlib.Core.Path.{◌≡◌, refl, sym, ap, ap₂, ◌∙◌}
-use mathlib.Core.Bool.{Bool, true, false, cond}
-use mathlib.Core.List.{List, [], ◌∷◌, Perm, Permᴰ, is_set}
+-- `sorted`, of any list: the same numbers, rising, and from any arrangement the same list: `sorted_kept`, `median_of_any`.
+use Rattle.std.proofs.Common.{◌≡◌, refl, sym, ap, ap₂, ◌∙◌, Bool, true, false, cond, List, [], ◌∷◌, ℕ, zero, suc, ◌+◌, ◌<◌, add-one, arith, ℤ, length, ◌≤ℤ◌}
+use mathlib.Core.List.{Perm, Permᴰ, is_set}
 use mathlib.Core.List.Perm
 use mathlib.Core.Logic.{∥∥₁_elim}
-use Prim.Native.Nat.{ℕ, zero, suc, ◌+◌, ◌<◌}
-use native.Mathlib.Numerals.{add-one}
-use native.Mathlib.Omega.{arith}
-use lib.IntN.{ℤ, ℤ_set}
-use lib.ListN.{length}
-use lib.Signed.{◌≤ℤ◌, lt_z}
+use lib.IntN.{ℤ_set}
+use lib.Signed.{lt_z}
 use Rattle.lists.specs.Lists.{at}
 use Rattle.basicop.proofs.Ints.{arith_ℤ, ≤ℤ_antisym, <ℤ-≤ℤ}
 use Rattle.basicop.proofs.Tests.{less_yes, less_no, yes_less, no_less}

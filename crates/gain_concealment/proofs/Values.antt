@@ -1,8 +1,5 @@
--- Gains of erased frames, computed from the definition: four subframes in a row, other arrangements, the last stage, and zeros. Assumes nothing.
-use mathlib.Core.Path.{◌≡◌, refl}
-use mathlib.Core.List.{List, [], ◌∷◌}
-use Prim.Native.Nat.{ℕ, zero, suc}
-use lib.IntN.{ℤ, pos}
+-- Gains of erased frames, computed from the definition: four subframes in a row, other arrangements, the last stage, and zeros.
+use Rattle.std.proofs.Common.{◌≡◌, refl, List, [], ◌∷◌, ℕ, zero, suc, ℤ, pos}
 use Rattle.basicop.specs.Ops.{asr, clamp, mult}
 use Rattle.gain_concealment.specs.declared.GainPair.{GainPair}
 use Rattle.gain_concealment.specs.declared.GainConcealment.{GainConcealment}

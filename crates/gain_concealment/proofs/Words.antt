@@ -1,11 +1,5 @@
--- From gains of 16 bits come gains of 16 bits, five in each of the fives: `concealed_words`, `good_words`. Assumes nothing.
-use mathlib.Core.Bool.{Bool, true, false}
-use mathlib.Core.List.{List, [], ◌∷◌}
-use lib.Dec.{lit<}
-use lib.IntN.{ℤ, pos}
-use lib.ListN.{drop}
-use mir.Syntax.{w16}
-use mir.Val.{SFits}
+-- From gains of 16 bits come gains of 16 bits, five in each of the fives: `concealed_words`, `good_words`.
+use Rattle.std.proofs.Common.{Bool, true, false, List, [], ◌∷◌, lit<, ℤ, pos, drop, w16, SFits}
 use Rattle.basicop.specs.Ops.{mult}
 use Rattle.basicop.specs.Words.{Words}
 use Rattle.basicop.proofs.Clamp.{clamp_fits}

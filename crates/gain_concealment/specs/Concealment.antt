@@ -1,6 +1,6 @@
 -- ec_gain_pitch and ec_gain_code of TS 26.073, and ec_gain_pitch_update and ec_gain_code_update (TS 26.091): the gains of erased frames, and of a good frame
 -- after one. pbuf and gbuf are the two fives, past_gain_pit and past_gain_code the past gains, prev_gp and prev_gc the last good ones. Document 02, 7/13.
-use Rattle.std.specs.Prelude.{Bool, cond, List, [], ◌∷◌, ◌++◌, ℤ, pos, drop}
+use Rattle.std.specs.Prelude.{Bool, if◌then◌else◌, List, [], ◌∷◌, ◌++◌, ℤ, pos, drop}
 use Rattle.std.specs.Int.Signed.{lt_z}
 use Rattle.lists.specs.Lists.{entry}
 use Rattle.basicop.specs.Ops.{mult}
@@ -19,7 +19,7 @@ cdown = pos 32767 ∷ pos 32112 ∷ pos 32112 ∷ pos 32112 ∷ pos 32112 ∷ po
 -- ---- one gain
 -- at most the limit
 abbrev pub held_to : ℤ → ℤ → ℤ
-held_to limit gain = cond (lt_z limit gain) limit gain
+held_to limit gain = if lt_z limit gain then limit else gain
 
 -- ec_gain_pitch, ec_gain_code: the median of the five, at most the past gain, scaled by the stage's entry
 abbrev pub concealed_gain : List ℤ → List ℤ → ℤ → ℤ → ℤ
@@ -57,7 +57,7 @@ held_pair limits gains = record { pitch = record { 0 = held_to limits.pitch.0 ga
 -- of a good frame (bfi 0): where the frame before was erased (prev_bf), the gains are first held to the last good ones; then they become these
 unfoldable pub good_gains : Bool → GainPair → GainConcealment → UsedGains
 good_gains erased gains c =
-    let used = cond erased (held_pair c.last_good gains) gains in
+    let used = if erased then held_pair c.last_good gains else gains in
     let next = updated used c in
     record {
       gains = used;

@@ -1,12 +1,6 @@
--- The ranges of the table, by one test of every row: `RowRanges`. Assumes nothing.
-use mathlib.Core.Bool.{Bool, ◌&&◌}
-use mathlib.Core.List.{List, []}
-use Prim.Native.Nat.{ℕ, ◌<◌}
-use native.Mathlib.Omega.{arith}
-use lib.Dec.{T, eqb, eqb→eq}
-use lib.IntN.{ℤ, pos}
-use lib.ListN.{length}
-use lib.Signed.{◌≤ℤ◌, le_z, le_z_yes}
+-- The ranges of the table, by one test of every row: `RowRanges`.
+use Rattle.std.proofs.Common.{Bool, ◌&&◌, List, [], ℕ, ◌<◌, arith, T, eqb, eqb→eq, ℤ, pos, length, ◌≤ℤ◌}
+use lib.Signed.{le_z, le_z_yes}
 use Rattle.std.proofs.lemmas.Int.{ints}
 use Rattle.lists.specs.Lists.{minus, at}
 use Rattle.lists.proofs.Table.{both_pass, each_entry}

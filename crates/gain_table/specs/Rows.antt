@@ -1,6 +1,6 @@
 -- table_gain_highrates of TS 26.073 at MR74 (document 02, 5/13, "taken from `gain.rs`"): 128 rows of pitch gain (Q14), correction of the predicted gain
 -- (Q12) and energy (Q10). The standard's fourth column is another mode's.
-use Rattle.std.specs.Prelude.{List, [], ◌∷◌, ℤ, pos, negsuc, get_or}
+use Rattle.std.specs.Prelude.{List, [], ◌∷◌, ℤ, pos, negsuc, slice_index_or}
 use Rattle.lists.specs.Lists.{minus}
 
 unfoldable pub gain_table : List (List ℤ)
@@ -72,5 +72,5 @@ gain_table =
 
 -- the row of an index, none outside the table
 unfoldable pub gain_row : ℤ → List ℤ
-gain_row (pos index) = get_or gain_table index []
+gain_row (pos index) = slice_index_or gain_table index []
 gain_row (negsuc n) = []

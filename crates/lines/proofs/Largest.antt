@@ -1,12 +1,7 @@
--- The larger of two integers, and the largest of a list, folded from its first entry. Assumes nothing.
-use mathlib.Core.Path.{◌≡◌, refl}
-use mathlib.Core.Bool.{Bool, true, false, cond}
-use mathlib.Core.List.{List, [], ◌∷◌, foldl}
-use Prim.Native.Nat.{ℕ, zero, suc, ◌<◌}
-use native.Mathlib.Omega.{arith}
-use lib.IntN.{ℤ, pos}
-use lib.ListN.{length}
-use lib.Signed.{lt_z, ◌≤ℤ◌, ◌<ℤ◌}
+-- The larger of two integers, and the largest of a list, folded from its first entry.
+use Rattle.std.proofs.Common.{◌≡◌, refl, Bool, true, false, cond, List, [], ◌∷◌, ℕ, zero, suc, ◌<◌, arith, ℤ, pos, length, ◌≤ℤ◌, ◌<ℤ◌}
+use mathlib.Core.List.{foldl}
+use lib.Signed.{lt_z}
 use Rattle.std.specs.Int.{int_max}
 use Rattle.std.proofs.lemmas.Int.{int_max_is}
 use Rattle.lists.specs.Lists.{at}

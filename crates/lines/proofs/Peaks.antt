@@ -1,14 +1,9 @@
--- The largest distance from zero, the mark by its tests, and both beside the largest sample; any of the flags. Assumes nothing.
-use mathlib.Core.Path.{◌≡◌, refl, sym, ap, ◌∙◌, subst}
-use mathlib.Core.Bool.{Bool, true, false, beq}
-use mathlib.Core.List.{List, [], ◌∷◌, map, foldl}
-use Prim.Native.Nat.{ℕ, zero, suc, ◌<◌, ◌≤◌}
-use native.Mathlib.Omega.{arith}
-use lib.IntN.{ℤ, pos, negsuc, neg_ℤ, nat_abs}
-use lib.ListN.{length, length-map}
-use lib.Signed.{lt_z, ◌≤ℤ◌, ◌<ℤ◌, nat_abs-le}
-use mir.Syntax.{w16}
-use mir.Val.{SFits}
+-- The largest distance from zero, the mark by its tests, and both beside the largest sample; any of the flags.
+use Rattle.std.proofs.Common.{◌≡◌, refl, sym, ap, ◌∙◌, subst, Bool, true, false, List, [], ◌∷◌, map, ℕ, zero, suc, ◌<◌, ◌≤◌, arith, ℤ, pos, negsuc, neg_ℤ, nat_abs, length, ◌≤ℤ◌, ◌<ℤ◌, w16, SFits}
+use mathlib.Core.Bool.{beq}
+use mathlib.Core.List.{foldl}
+use lib.ListN.{length-map}
+use lib.Signed.{lt_z, nat_abs-le}
 use Rattle.std.specs.Int.{int_max}
 use Rattle.std.specs.List.{list_any, fold}
 use Rattle.lists.specs.Lists.{at, minus}

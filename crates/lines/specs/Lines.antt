@@ -1,5 +1,5 @@
 -- The bench program's lines, as bytes of ASCII: document 01, "The bench program's lines", with the peak of document 02, 4/13.
-use Rattle.std.specs.Prelude.{Bool, false, cond, ◌||◌, ℕ, zero, suc, ◌+◌, ◌/◌, ◌%◌, ltb, ℤ, pos, nat_abs}
+use Rattle.std.specs.Prelude.{Bool, false, if◌then◌else◌, ◌||◌, ℕ, zero, suc, ◌+◌, ◌/◌, ◌%◌, nat_lt, ℤ, pos, nat_abs, codes}
 use mathlib.Core.List.{List, [], ◌∷◌, ◌++◌, map, foldl}
 use Rattle.std.specs.Int.Signed.{lt_z}
 
@@ -11,7 +11,7 @@ digit d = 48 + d
 -- the decimal digits of n, where no more than k of them stand before the last
 unfoldable pub spelled : ℕ → ℕ → List ℕ
 spelled zero n = digit n ∷ []
-spelled (suc k) n = cond (ltb n 10) (digit n ∷ []) (spelled k (n / 10) ++ (digit (n % 10) ∷ []))
+spelled (suc k) n = if nat_lt n 10 then digit n ∷ [] else spelled k (n / 10) ++ (digit (n % 10) ∷ [])
 
 -- the decimal digits of a natural number: n has no more than n digits before the last
 unfoldable pub decimal : ℕ → List ℕ
@@ -20,11 +20,11 @@ decimal n = spelled n n
 -- an integer: the minus sign 2D where it is negative, and the digits of its magnitude. No peak is negative (`peak_unsigned`): the sign is not reached in a
 -- printed peak, nor in a mean of peaks
 unfoldable pub integer : ℤ → List ℕ
-integer z = cond (lt_z z (pos 0)) (0x2D ∷ decimal (nat_abs z)) (decimal (nat_abs z))
+integer z = if lt_z z (pos 0) then 0x2D ∷ decimal (nat_abs z) else decimal (nat_abs z)
 
 -- ---- peak and mark
 abbrev pub larger : ℤ → ℤ → ℤ
-larger a b = cond (lt_z a b) b a
+larger a b = if lt_z a b then b else a
 
 -- the largest of numbers, of which there is at least one
 unfoldable pub largest : List ℤ → ℤ
@@ -45,7 +45,7 @@ any_of (flag ∷ flags) = flag || any_of flags
 
 -- document 01's mark: L if the peak is 32760 or more; otherwise R if any flag; otherwise -
 unfoldable pub mark_of : ℤ → List Bool → ℕ
-mark_of peak flags = cond (lt_z peak (pos 32760)) (cond (any_of flags) 0x52 0x2D) 0x4C
+mark_of peak flags = if lt_z peak (pos 32760) then (if any_of flags then 0x52 else 0x2D) else 0x4C
 
 -- ---- fields and lines
 abbrev pub space : ℕ
@@ -55,17 +55,17 @@ abbrev pub line_feed : ℕ
 line_feed = 0x0A
 
 abbrev pub flag_digit : Bool → ℕ
-flag_digit flag = cond flag (digit 1) (digit 0)
+flag_digit flag = if flag then digit 1 else digit 0
 
 -- "state", "refused", "cut"
 abbrev pub state_word : List ℕ
-state_word = 0x73 ∷ 0x74 ∷ 0x61 ∷ 0x74 ∷ 0x65 ∷ []
+state_word = codes "state"
 
 abbrev pub refused_word : List ℕ
-refused_word = 0x72 ∷ 0x65 ∷ 0x66 ∷ 0x75 ∷ 0x73 ∷ 0x65 ∷ 0x64 ∷ []
+refused_word = codes "refused"
 
 abbrev pub cut_word : List ℕ
-cut_word = 0x63 ∷ 0x75 ∷ 0x74 ∷ []
+cut_word = codes "cut"
 
 -- a field and, after a space, what follows it
 abbrev pub field : List ℕ → List ℕ → List ℕ

@@ -1,8 +1,5 @@
--- A loop that goes by a count: s after f 0, f 1, .. f (n − 1). Assumes nothing.
-use Prim.Native.Nat.{ℕ, zero, suc, ◌+◌, ◌<◌}
-use mathlib.Core.Path.{◌≡◌, refl, ap, ◌∙◌}
-use native.Mathlib.Numerals.{add-one}
-use native.Mathlib.Omega.{arith}
+-- A loop that goes by a count: s after f 0, f 1, .. f (n − 1).
+use Rattle.std.proofs.Common.{ℕ, zero, suc, ◌+◌, ◌<◌, ◌≡◌, refl, ap, ◌∙◌, add-one, arith}
 use Rattle.lists.specs.Lists.{iter}
 
 pub record Iter {S : Type 0} (f : ℕ → S → S) (s₀ s : S) (n : ℕ) : Type 0 where

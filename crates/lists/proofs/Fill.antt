@@ -1,13 +1,6 @@
 -- A loop that fills an array from the front: after i turns it agrees with the wanted list in the first i places.
--- Assumes nothing.
-use Prim.Native.Nat.{ℕ, ◌+◌, ◌≤◌, ◌<◌}
-use mathlib.Core.Path.{◌≡◌, refl, sym, ◌∙◌}
-use mathlib.Core.List.{List}
-use native.Mathlib.Numerals.{add-one}
-use native.Mathlib.Omega.{arith}
-use lib.ListN.{length, set, take, length-set}
-use lib.Seq.{set-get_or, get_or-set_other, take-suc, take-suc-set, take_all}
-use lib.IntN.{ℤ, pos}
+use Rattle.std.proofs.Common.{ℕ, ◌+◌, ◌≤◌, ◌<◌, ◌≡◌, refl, sym, ◌∙◌, List, add-one, arith, length, set, take, length-set, get_or-set_other, take-suc, take-suc-set, take_all, ℤ, pos}
+use lib.Seq.{set-get_or}
 use Rattle.lists.specs.Lists.{at}
 
 pub record Filled (n m : ℕ) (src out : List ℤ) (i : ℕ) : Type 0 where

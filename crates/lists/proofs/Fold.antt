@@ -1,9 +1,6 @@
--- A fold over a list, by what stands after each of its entries. Assumes nothing.
-use Prim.Native.Nat.{ℕ, suc, ◌<◌}
-use mathlib.Core.Path.{◌≡◌, refl}
-use mathlib.Core.List.{List, [], ◌∷◌, foldl}
-use native.Mathlib.Omega.{arith}
-use lib.ListN.{length, get_or}
+-- A fold over a list, by what stands after each of its entries.
+use Rattle.std.proofs.Common.{ℕ, suc, ◌<◌, ◌≡◌, refl, List, [], ◌∷◌, arith, length, get_or}
+use mathlib.Core.List.{foldl}
 
 -- t k is what stands after k entries
 pub fold_counted : {A S : Type 0} (f : S → A → S) (t : ℕ → S) (xs : List A) → ((k : ℕ) (d : A) → k < length xs → t (suc k) ≡ f (t k) (get_or xs k d)) → foldl f (t 0) xs ≡ t (length xs)

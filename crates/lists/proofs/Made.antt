@@ -1,13 +1,7 @@
--- An array that `array::from_fn` made entry by entry is the list of those entries. Assumes nothing.
-use Prim.Native.Nat.{ℕ, zero, suc, ◌+◌, ◌≤◌, ◌<◌}
-use mathlib.Core.Path.{◌≡◌, refl, sym, ◌∙◌}
-use mathlib.Core.List.{List, map}
-use mathlib.Core.Logic.{⊎_elim}
-use native.Mathlib.Nat.{eq-or-lt_of_le}
-use native.Mathlib.Omega.{arith}
-use lib.ListN.{length, length-map}
+-- An array that `array::from_fn` made entry by entry is the list of those entries.
+use Rattle.std.proofs.Common.{ℕ, zero, suc, ◌+◌, ◌≤◌, ◌<◌, ◌≡◌, refl, sym, ◌∙◌, List, map, ⊎_elim, eq-or-lt_of_le, arith, length, ℤ, pos}
+use lib.ListN.{length-map}
 use Rattle.std.proofs.lemmas.List.{ext_get_or}
-use lib.IntN.{ℤ, pos}
 use denote.Param.Members.{Mut, Called}
 use Rattle.std.specs.Array.{IsFromFnResult, IsFromFnResultFrom, index_steps}
 use Rattle.std.specs.Iterator.{CallableAtEachTurn}

@@ -1,10 +1,5 @@
--- A list and its parts: cut by their counts, and joined again. Assumes nothing.
-use Prim.Native.Nat.{ℕ, zero, suc, ◌+◌, ◌<◌}
-use mathlib.Core.Path.{◌≡◌, refl, ap, ◌∙◌}
-use mathlib.Core.List.{List, [], ◌∷◌}
-use native.Mathlib.Omega.{arith}
-use lib.ListN.{length, take, drop, get_or, length-drop, take-append-drop}
-use lib.Seq.{length-take-le, take_at, drop_at, take_all, get_or-take, get_or-drop}
+-- A list and its parts: cut by their counts, and joined again.
+use Rattle.std.proofs.Common.{ℕ, zero, suc, ◌+◌, ◌<◌, ◌≡◌, refl, ap, ◌∙◌, List, [], ◌∷◌, arith, length, take, drop, get_or, length-drop, take-append-drop, length-take-le, take_at, drop_at, take_all, get_or-take, get_or-drop}
 use Rattle.lists.specs.Parts.{joined, total, cut, part_at}
 
 module _ {A : Type 0} where

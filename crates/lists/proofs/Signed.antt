@@ -1,14 +1,8 @@
 -- A signed local is its bits (`of_z`), an array's list has numbers. What crosses a local comes back as `to_z w (of_z w z)`.
--- Assumes nothing.
-use Prim.Native.Nat.{ℕ, zero, suc, ◌<◌, ◌^◌}
-use mathlib.Core.Path.{◌≡◌, ◌∙◌}
-use mathlib.Core.List.{List, [], ◌∷◌}
-use lib.IntN.{ℤ}
+use Rattle.std.proofs.Common.{ℕ, zero, suc, ◌<◌, ◌^◌, ◌≡◌, ◌∙◌, List, [], ◌∷◌, ℤ, pow_pos, SFits, to_z, of_z, to_z-of_z}
 use lib.Signed.{mag}
-use lib.Pow.{pow_pos}
 use mir.Syntax.{Width}
-use mir.Val.{Val, SFits, to_z, of_z, hbits}
-use mir.Facts.{to_z-of_z}
+use mir.Val.{Val, hbits}
 use denote.Array.{each}
 use denote.Shadow.{shadow}
 use denote.Signed.{SInt}

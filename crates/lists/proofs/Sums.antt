@@ -1,10 +1,6 @@
--- Counts and sums of one list after another. Assumes nothing.
-use Prim.Native.Nat.{ℕ, ◌+◌}
-use mathlib.Core.Path.{◌≡◌, refl, sym, ap, ◌∙◌}
-use mathlib.Core.Bool.{Bool, true, false, cond}
-use mathlib.Core.List.{List, [], ◌∷◌, ◌++◌}
-use native.Mathlib.Omega.{arith}
-use lib.IntN.{ℤ, ◌+ℤ◌, +ℤ_idl, +ℤ_assoc}
+-- Counts and sums of one list after another.
+use Rattle.std.proofs.Common.{ℕ, ◌+◌, ◌≡◌, refl, sym, ap, ◌∙◌, Bool, true, false, cond, List, [], ◌∷◌, ◌++◌, arith, ℤ, ◌+ℤ◌}
+use lib.IntN.{+ℤ_idl, +ℤ_assoc}
 use Rattle.lists.specs.Lists.{count, selected, total_z}
 use Rattle.lists.specs.Parts.{total}
 

@@ -1,14 +1,5 @@
 -- A rule of a table, of integers or of rows, proved at all of its entries by one test that antt computes, one entry after the other.
--- Assumes nothing.
-use mathlib.Core.Path.{◌≡◌, ◌∙◌, subst, sym, ap}
-use mathlib.Core.Bool.{Bool, true, false, ◌&&◌}
-use mathlib.Core.List.{List, [], ◌∷◌}
-use mathlib.Core.Logic.{⊎_elim}
-use Prim.Native.Nat.{ℕ, zero, suc, ◌+◌, ◌<◌}
-use native.Mathlib.Nat.{add-zero, zero-add, add-suc, suc-add, le_of_suc-le-suc, not-suc-le-zero, eq-or-lt_of_le}
-use lib.Dec.{T, eqb→eq}
-use lib.IntN.{ℤ, pos, negsuc}
-use lib.ListN.{length, get_or}
+use Rattle.std.proofs.Common.{◌≡◌, ◌∙◌, subst, sym, ap, Bool, true, false, ◌&&◌, List, [], ◌∷◌, ⊎_elim, ℕ, zero, suc, ◌+◌, ◌<◌, add-zero, zero-add, add-suc, suc-add, le_of_suc-le-suc, not-suc-le-zero, eq-or-lt_of_le, T, eqb→eq, ℤ, pos, negsuc, length, get_or}
 use Rattle.lists.specs.Lists.{at, eq_z}
 
 pub both_pass : (a b : Bool) → T (a && b) → T a × T b

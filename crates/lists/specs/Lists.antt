@@ -1,6 +1,6 @@
 -- Lists of integers by their entries, and steps that are counted: what the definitions of all stages are written with. What holds of every entry of a list,
 -- how many tests are true, and sums.
-use Rattle.std.specs.Prelude.{ℕ, zero, suc, ◌+◌, Bool, false, cond, List, [], ◌∷◌, ◌++◌, eqb, ℤ, pos, negsuc, neg_ℤ, ◌+ℤ◌, get_or}
+use Rattle.std.specs.Prelude.{ℕ, zero, suc, ◌+◌, Bool, false, if◌then◌else◌, List, [], ◌∷◌, ◌++◌, ◌==◌, ℤ, pos, negsuc, neg_ℤ, ◌+ℤ◌, slice_index_or}
 
 -- a negative number, as a table prints it: -n
 abbrev pub minus : ℕ → ℤ
@@ -8,14 +8,14 @@ minus n = neg_ℤ (pos n)
 
 -- two integers are the same, as a test
 abbrev pub eq_z : ℤ → ℤ → Bool
-eq_z (pos a) (pos b) = eqb a b
+eq_z (pos a) (pos b) = a == b
 eq_z (pos a) (negsuc b) = false
 eq_z (negsuc a) (pos b) = false
-eq_z (negsuc a) (negsuc b) = eqb a b
+eq_z (negsuc a) (negsuc b) = a == b
 
 -- entry i of a list of integers, and 0 past its end
 abbrev pub at : List ℤ → ℕ → ℤ
-at xs i = get_or xs i (pos 0)
+at xs i = slice_index_or xs i (pos 0)
 
 -- the same at an integer index: 0 before the start and past the end
 abbrev pub entry : List ℤ → ℤ → ℤ
@@ -44,7 +44,7 @@ grow g n y = y ++ (g n y ∷ [])
 
 -- how many of the tests are true: each is one, or none
 unfoldable pub one_if : Bool → ℕ
-one_if b = cond b 1 0
+one_if b = if b then 1 else 0
 
 abbrev pub count : List Bool → ℕ
 count [] = 0
@@ -53,7 +53,7 @@ count (b ∷ bs) = one_if b + count bs
 -- the entries of which the test is true, in order
 abbrev pub selected : {A : Type 0} → (A → Bool) → List A → List A
 selected f [] = []
-selected f (x ∷ xs) = cond (f x) (x ∷ selected f xs) (selected f xs)
+selected f (x ∷ xs) = if f x then x ∷ selected f xs else selected f xs
 
 -- all the integers together; `total` (Parts.antt) of naturals
 abbrev pub total_z : List ℤ → ℤ

@@ -1,5 +1,5 @@
 -- A list that is made of parts, one after another, each of a count that is known.
-use Rattle.std.specs.Prelude.{List, [], ◌∷◌, ◌++◌, ℕ, ◌+◌, take, drop, get_or}
+use Rattle.std.specs.Prelude.{List, [], ◌∷◌, ◌++◌, ℕ, ◌+◌, take, drop, slice_index_or}
 
 -- the parts, one after another
 abbrev pub joined : {A : Type 0} → List (List A) → List A
@@ -23,4 +23,4 @@ cut (n ∷ ns) xs = take n xs ∷ cut ns (drop n xs)
 
 -- part k
 abbrev pub part_at : {A : Type 0} → List (List A) → ℕ → List A
-part_at ps k = get_or ps k []
+part_at ps k = slice_index_or ps k []

@@ -1,12 +1,6 @@
--- Log2: by its test, and of a number above 0 that its position lies in a table of 33 numbers. Assumes nothing.
-use mathlib.Core.Path.{◌≡◌}
-use mathlib.Core.Bool.{true, false}
-use mathlib.Core.List.{List}
-use lib.Dec.{lit≤}
-use lib.IntN.{ℤ, pos}
-use lib.Signed.{◌<ℤ◌, le_z}
-use mir.Syntax.{w32}
-use mir.Val.{SFits}
+-- Log2: by its test, and of a number above 0 that its position lies in a table of 33 numbers.
+use Rattle.std.proofs.Common.{◌≡◌, true, false, List, lit≤, ℤ, pos, ◌<ℤ◌, w32, SFits}
+use lib.Signed.{le_z}
 use Rattle.basicop.specs.Ops.{sub, l_shl, l_shr, extract_h, norm_l}
 use Rattle.basicop.specs.Interpolation.{interpolated}
 use Rattle.basicop.proofs.Norm.{normalised}

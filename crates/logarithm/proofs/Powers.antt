@@ -1,12 +1,6 @@
--- Pow2 of a fraction that is not negative: its position lies in a table of 33 numbers, and what it gives where those lie in 0..=32767. Assumes nothing.
-use mathlib.Core.Path.{◌≡◌, refl, sym}
-use mathlib.Core.List.{List}
-use Prim.Native.Nat.{ℕ, ◌+◌, ◌/◌, ◌%◌, ◌<◌, ◌≤◌}
-use native.Mathlib.Nat.{div-add-mod', mod-lt, div-div-eq-div-mul}
-use native.Mathlib.Omega.{arith}
-use lib.Dec.{lit<, lit≤}
-use lib.IntN.{ℤ, pos, negsuc, ◌+ℤ◌}
-use lib.Signed.{◌≤ℤ◌, ◌<ℤ◌}
+-- Pow2 of a fraction that is not negative: its position lies in a table of 33 numbers, and what it gives where those lie in 0..=32767.
+use Rattle.std.proofs.Common.{◌≡◌, refl, sym, List, ℕ, ◌+◌, ◌/◌, ◌%◌, ◌<◌, ◌≤◌, div-add-mod', mod-lt, arith, lit<, lit≤, ℤ, pos, negsuc, ◌+ℤ◌, ◌≤ℤ◌, ◌<ℤ◌}
+use native.Mathlib.Nat.{div-div-eq-div-mul}
 use borrow.Author.Differences.{sum_is_lem}
 use Rattle.lists.specs.Lists.{at, entry}
 use Rattle.basicop.specs.Ops.{asr, sub, l_mult, l_shr_r, clamp}

@@ -1,14 +1,5 @@
--- The eleven coefficients of a row: its length, its first entry, its range, and its entries as the code makes them. Assumes nothing.
-use Prim.Native.Nat.{ℕ, zero, suc, ◌+◌, ◌-◌, ◌<◌}
-use mathlib.Core.Path.{◌≡◌, refl, sym, ap, ◌∙◌}
-use mathlib.Core.List.{List}
-use native.Mathlib.Numerals.{add-one}
-use native.Mathlib.Omega.{arith}
-use lib.Dec.{lit<}
-use lib.IntN.{ℤ, pos}
-use lib.ListN.{length, length-append}
-use mir.Syntax.{w16}
-use mir.Val.{SFits}
+-- The eleven coefficients of a row: its length, its first entry, its range, and its entries as the code makes them.
+use Rattle.std.proofs.Common.{ℕ, zero, suc, ◌+◌, ◌-◌, ◌<◌, ◌≡◌, refl, sym, ap, ◌∙◌, List, add-one, arith, lit<, ℤ, pos, length, length-append, w16, SFits}
 use Rattle.lists.specs.Lists.{at, tab}
 use Rattle.lists.proofs.Entries.{length_tab, at_tab, at_left, at_right, each_append, each_tab}
 use Rattle.basicop.specs.Ops.{l_add, l_sub}

@@ -1,13 +1,5 @@
--- The polynomial of one degree more, as the code makes it in an array of six. Assumes nothing.
-use Prim.Native.Nat.{ℕ, zero, suc, ◌+◌, ◌*◌, ◌-◌, ◌≤◌, ◌<◌}
-use mathlib.Core.Path.{◌≡◌, refl, sym, ap, ◌∙◌}
-use mathlib.Core.List.{List}
-use native.Mathlib.Nat.{not-suc-le-zero, le_of_suc-le-suc}
-use native.Mathlib.Numerals.{add-one}
-use native.Mathlib.Omega.{arith}
-use lib.IntN.{ℤ, pos}
-use lib.ListN.{length, take, set, length-append}
-use lib.Seq.{get_or-take, length-take-le, take-suc-set}
+-- The polynomial of one degree more, as the code makes it in an array of six.
+use Rattle.std.proofs.Common.{ℕ, zero, suc, ◌+◌, ◌*◌, ◌-◌, ◌≤◌, ◌<◌, ◌≡◌, refl, sym, ap, ◌∙◌, List, not-suc-le-zero, le_of_suc-le-suc, add-one, arith, ℤ, pos, length, take, set, length-append, get_or-take, length-take-le, take-suc-set}
 use Rattle.lists.specs.Lists.{at, tab}
 use Rattle.lists.proofs.Entries.{at_tab}
 use Rattle.basicop.specs.Ops.{l_msu}

@@ -1,13 +1,7 @@
--- The answers of the frame calls, put together from what their parts give. Assumes nothing.
-use mathlib.Core.Path.{◌≡◌, refl, sym, ap, ◌∙◌}
-use mathlib.Core.Bool.{Bool}
-use mathlib.Core.List.{List}
-use native.Mathlib.Omega.{arith}
-use lib.IntN.{ℤ, pos}
-use lib.ListN.{length, replicate}
+-- The answers of the frame calls, put together from what their parts give.
+use Rattle.std.proofs.Common.{◌≡◌, refl, sym, ap, ◌∙◌, Bool, List, arith, ℤ, pos, length, replicate, ℕ, ◌+◌}
 use Rattle.std.specs.Array.{AllOfLen}
 use Rattle.std.proofs.lemmas.List.{ext_get_or, get_or-replicate}
-use Prim.Native.Nat.{ℕ, ◌+◌}
 use Rattle.lists.specs.Lists.{at}
 use Rattle.basicop.specs.declared.Q14.{Q14}
 use Rattle.pitch.specs.Lag.{Lag}

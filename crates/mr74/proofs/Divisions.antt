@@ -1,7 +1,5 @@
--- The trace of a frame tells every division that it reaches: `EveryDivision` and `FrameDivisions`. Assumes nothing.
-use mathlib.Core.Path.{ap₂, ◌∙◌}
-use Prim.Native.Nat.{ℕ, ◌+◌}
-use lib.ListN.{length, length-append}
+-- The trace of a frame tells every division that it reaches: `EveryDivision` and `FrameDivisions`.
+use Rattle.std.proofs.Common.{ap₂, ◌∙◌, ℕ, ◌+◌, length, length-append}
 use Rattle.decoder.specs.Core.{samples_of, quotients_of}
 use Rattle.decoder.proofs.Divisions.{core_divisions}
 use Rattle.postfilter.proofs.Divisions.{post_divisions}

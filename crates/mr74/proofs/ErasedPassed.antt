@@ -1,12 +1,5 @@
--- What an accepted call of an erased sheet has shown, group by group. Assumes nothing.
-use Prim.Native.Nat.{ℕ}
-use mathlib.Core.Path.{◌≡◌}
-use mathlib.Core.Bool.{true}
-use mathlib.Core.List.{List}
-use native.Mathlib.Omega.{arith}
-use lib.IntN.{ℤ, pos}
-use lib.ListN.{length}
-use lib.Signed.{◌≤ℤ◌}
+-- What an accepted call of an erased sheet has shown, group by group.
+use Rattle.std.proofs.Common.{ℕ, ◌≡◌, true, List, arith, ℤ, pos, length, ◌≤ℤ◌}
 use Rattle.spectral.specs.Lsp.{Frequencies}
 use Rattle.outcome.specs.Outcome.{is_accepted}
 use Rattle.outcome.specs.Checks.{first_met}

@@ -1,11 +1,5 @@
--- What an accepted sheet of any kind leaves is a concealment of 16-bit numbers; and the gains of an accepted erased sheet. Assumes nothing.
-use Prim.Native.Nat.{ℕ, ◌+◌, ◌<◌}
-use mathlib.Core.List.{List, [], ◌∷◌}
-use lib.Dec.{lit≤}
-use lib.IntN.{ℤ, pos}
-use lib.Signed.{◌≤ℤ◌}
-use mir.Syntax.{w16}
-use mir.Val.{SFits}
+-- What an accepted sheet of any kind leaves is a concealment of 16-bit numbers; and the gains of an accepted erased sheet.
+use Rattle.std.proofs.Common.{ℕ, ◌+◌, ◌<◌, List, [], ◌∷◌, lit≤, ℤ, pos, ◌≤ℤ◌, w16, SFits}
 use Rattle.lists.specs.Lists.{at, Every}
 use Rattle.basicop.proofs.Ints.{arith_ℤ, sfits_by}
 use Rattle.basicop.proofs.Range.{sfits_range}

@@ -1,15 +1,7 @@
--- The groups of checks of a frame call: what each has shown where it accepts, and the places of its refusals. Assumes nothing.
-use Prim.Native.Nat.{ℕ, zero, suc, ◌+◌, ◌≤◌, ◌<◌}
-use mathlib.Core.Path.{◌≡◌}
-use mathlib.Core.Bool.{true}
-use mathlib.Core.List.{List, [], ◌∷◌, ◌++◌}
-use native.Mathlib.Numerals.{add-one}
-use native.Mathlib.Omega.{arith}
-use lib.IntN.{ℤ, pos, ◌+ℤ◌}
-use lib.ListN.{length, take, drop}
-use lib.Seq.{get_or-take}
-use lib.Signed.{◌≤ℤ◌, le_z_yes, lt_z}
-use borrow.Author.Tests.{eqb-true, ltb-false, not-false}
+-- The groups of checks of a frame call: what each has shown where it accepts, and the places of its refusals.
+use Rattle.std.proofs.Common.{ℕ, zero, suc, ◌+◌, ◌≤◌, ◌<◌, ◌≡◌, true, List, [], ◌∷◌, ◌++◌, add-one, arith, ℤ, pos, ◌+ℤ◌, length, take, drop, get_or-take, ◌≤ℤ◌, eqb-true, ltb-false}
+use lib.Signed.{le_z_yes, lt_z}
+use borrow.Author.Tests.{not-false}
 use Rattle.std.proofs.lemmas.Bool.{or_parts}
 use Rattle.lists.specs.Lists.{at}
 use Rattle.lists.proofs.Entries.{stretch_at}

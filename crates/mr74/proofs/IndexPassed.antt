@@ -1,12 +1,5 @@
--- What an accepted call of an index sheet has shown, group by group. Assumes nothing.
-use Prim.Native.Nat.{ℕ, ◌+◌, ◌<◌}
-use mathlib.Core.Path.{◌≡◌}
-use mathlib.Core.Bool.{true}
-use mathlib.Core.List.{List, ◌++◌}
-use native.Mathlib.Omega.{arith}
-use lib.IntN.{ℤ, pos}
-use lib.ListN.{length}
-use lib.Signed.{◌≤ℤ◌}
+-- What an accepted call of an index sheet has shown, group by group.
+use Rattle.std.proofs.Common.{ℕ, ◌+◌, ◌<◌, ◌≡◌, true, List, ◌++◌, arith, ℤ, pos, length, ◌≤ℤ◌}
 use Rattle.lists.specs.Lists.{at}
 use Rattle.lists.proofs.Entries.{stretch_at}
 use Rattle.outcome.specs.Outcome.{is_accepted}

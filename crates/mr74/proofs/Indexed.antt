@@ -1,13 +1,5 @@
--- An accepted index call is the frame call of the sheet with the gains so obtained, which is accepted: `IndexedIsFrame`. Assumes nothing.
-use Prim.Native.Nat.{ℕ, suc, ◌+◌, ◌*◌, ◌≤◌, ◌<◌}
-use mathlib.Core.Path.{◌≡◌, refl, sym, ap, ap₂, ◌∙◌}
-use mathlib.Core.Bool.{Bool, true}
-use mathlib.Core.List.{List, [], ◌∷◌, ◌++◌}
-use native.Mathlib.Omega.{arith}
-use lib.Dec.{lit≤}
-use lib.IntN.{ℤ, pos}
-use lib.ListN.{length}
-use lib.Signed.{◌≤ℤ◌}
+-- An accepted index call is the frame call of the sheet with the gains so obtained, which is accepted: `IndexedIsFrame`.
+use Rattle.std.proofs.Common.{ℕ, suc, ◌+◌, ◌*◌, ◌≤◌, ◌<◌, ◌≡◌, refl, sym, ap, ap₂, ◌∙◌, Bool, true, List, [], ◌∷◌, ◌++◌, arith, lit≤, ℤ, pos, length, ◌≤ℤ◌}
 use Rattle.std.specs.Prelude.{Ok}
 use Rattle.lists.specs.Lists.{at, Every}
 use Rattle.lists.proofs.Entries.{stretch_at}

@@ -1,9 +1,5 @@
--- A call's outcome, of what each group in its order comes to. Assumes nothing.
-use Prim.Native.Nat.{ℕ}
-use mathlib.Core.Path.{◌≡◌, ap, sym, ◌∙◌}
-use mathlib.Core.List.{List, ◌++◌}
-use lib.IntN.{ℤ}
-use lib.ListN.{length}
+-- A call's outcome, of what each group in its order comes to.
+use Rattle.std.proofs.Common.{ℕ, ◌≡◌, ap, sym, ◌∙◌, List, ◌++◌, ℤ, length}
 use Rattle.std.specs.Prelude.{Ok, Err}
 use Rattle.outcome.specs.declared.Refusal.{Refusal}
 use Rattle.outcome.specs.Outcome.{Outcome}

@@ -1,13 +1,5 @@
--- What an accepted call has shown, group by group. Assumes nothing.
-use Prim.Native.Nat.{ℕ, ◌+◌, ◌≤◌, ◌<◌}
-use mathlib.Core.Path.{◌≡◌}
-use mathlib.Core.Bool.{true}
-use mathlib.Core.List.{List, ◌++◌}
-use native.Mathlib.Omega.{arith}
-use lib.IntN.{ℤ, pos}
-use lib.ListN.{length}
-use lib.Seq.{length-take-le}
-use lib.Signed.{◌≤ℤ◌}
+-- What an accepted call has shown, group by group.
+use Rattle.std.proofs.Common.{ℕ, ◌+◌, ◌≤◌, ◌<◌, ◌≡◌, true, List, ◌++◌, arith, ℤ, pos, length, length-take-le, ◌≤ℤ◌}
 use Rattle.lists.specs.Lists.{at}
 use Rattle.basicop.proofs.Ints.{≤ℤ_trans}
 use Rattle.spectral.specs.Lsp.{Frequencies}

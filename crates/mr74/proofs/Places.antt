@@ -1,11 +1,5 @@
--- Every place of an answer lies in 0..=40. Assumes nothing.
-use Prim.Native.Nat.{ℕ, ◌≤◌}
-use mathlib.Core.Path.{◌≡◌, refl}
-use mathlib.Core.Bool.{Bool, true, false}
-use mathlib.Core.List.{List}
-use lib.Dec.{lit≤}
-use lib.IntN.{ℤ}
-use lib.ListN.{length}
+-- Every place of an answer lies in 0..=40.
+use Rattle.std.proofs.Common.{ℕ, ◌≤◌, ◌≡◌, refl, Bool, true, false, List, lit≤, ℤ, length}
 use Rattle.lists.specs.Lists.{Every}
 use Rattle.decoder.specs.Inputs.{Usable}
 use Rattle.decoder.proofs.Results.{Held, core_facts}

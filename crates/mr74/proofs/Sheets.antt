@@ -1,14 +1,7 @@
--- A sheet's pitch indices and a state's mark, as the code has them. Assumes nothing.
-use mathlib.Core.Path.{◌≡◌, refl}
-use native.Mathlib.Omega.{arith}
-use borrow.Author.Tests.{ne_eqb}
-use lib.Dec.{T, eqb, leb→le}
-use lib.IntN.{ℤ, pos, negsuc, nat_abs}
-use lib.Signed.{◌≤ℤ◌, non_neg, le_z_yes}
-use mir.Syntax.{w8, w16}
-use mir.Val.{Fits, SFits, to_z, of_z}
+-- A sheet's pitch indices and a state's mark, as the code has them.
+use Rattle.std.proofs.Common.{◌≡◌, refl, arith, ne_eqb, T, eqb, leb→le, ℤ, pos, negsuc, nat_abs, ◌≤ℤ◌, w8, w16, Fits, SFits, to_z, of_z, to_z-of_z}
+use lib.Signed.{non_neg, le_z_yes}
 use Rattle.lists.specs.Lists.{eq_z}
-use mir.Facts.{to_z-of_z}
 use Rattle.basicop.proofs.Ints.{≤ℤ_trans}
 use Rattle.basicop.proofs.Range.{sfits_from}
 

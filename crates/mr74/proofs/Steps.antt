@@ -1,9 +1,5 @@
--- Subframe after subframe: what each step keeps, all keep; and steps put together. Assumes nothing.
-use Prim.Native.Nat.{ℕ, suc, ◌+◌, ◌≤◌, ◌<◌}
-use mathlib.Core.Path.{◌≡◌, refl}
-use mathlib.Core.List.{List, [], ◌∷◌}
-use native.Mathlib.Omega.{arith}
-use lib.ListN.{length}
+-- Subframe after subframe: what each step keeps, all keep; and steps put together.
+use Rattle.std.proofs.Common.{ℕ, suc, ◌+◌, ◌≤◌, ◌<◌, ◌≡◌, refl, List, [], ◌∷◌, arith, length}
 use Rattle.lists.specs.Lists.{Every}
 use Rattle.pitch.specs.Lag.{Lag}
 use Rattle.decoder.specs.Inputs.{SubframeInputs}

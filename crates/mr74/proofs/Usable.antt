@@ -1,13 +1,6 @@
--- What an accepted sheet of any kind comes to is usable: its inputs, and the concealment after it. Assumes nothing.
-use Prim.Native.Nat.{ℕ, zero, suc, ◌+◌, ◌*◌, ◌≤◌, ◌<◌}
-use mathlib.Core.Path.{◌≡◌, refl, sym, subst, ◌∙◌}
-use mathlib.Core.Bool.{Bool}
-use mathlib.Core.List.{List, [], ◌∷◌}
-use native.Mathlib.Omega.{arith}
-use lib.Dec.{leb→le, lit≤}
-use lib.IntN.{ℤ, pos, negsuc}
-use lib.ListN.{length, length-take}
-use lib.Signed.{◌≤ℤ◌, le_z_yes}
+-- What an accepted sheet of any kind comes to is usable: its inputs, and the concealment after it.
+use Rattle.std.proofs.Common.{ℕ, zero, suc, ◌+◌, ◌*◌, ◌≤◌, ◌<◌, ◌≡◌, refl, sym, subst, ◌∙◌, Bool, List, [], ◌∷◌, arith, leb→le, lit≤, ℤ, pos, negsuc, length, length-take, ◌≤ℤ◌}
+use lib.Signed.{le_z_yes}
 use Rattle.lists.specs.Lists.{at, Every}
 use Rattle.lists.proofs.Entries.{every_append, every_map}
 use Rattle.basicop.proofs.Ints.{arith_ℤ}

@@ -1,12 +1,6 @@
--- The frame sheet with eight gains in place of an index sheet's indices: what stays where it is, what moves, and its lags. Assumes nothing.
-use Prim.Native.Nat.{ℕ, ◌+◌, ◌*◌, ◌≤◌, ◌<◌}
-use mathlib.Core.Path.{◌≡◌, sym, ap, ap₂, ◌∙◌}
-use mathlib.Core.List.{List, ◌++◌}
-use native.Mathlib.Omega.{arith}
-use lib.Dec.{lit≤}
-use lib.IntN.{ℤ}
-use lib.ListN.{length, take, drop, length-append, length-drop}
-use lib.Seq.{length-take-le, drop-append-add, drop-drop}
+-- The frame sheet with eight gains in place of an index sheet's indices: what stays where it is, what moves, and its lags.
+use Rattle.std.proofs.Common.{ℕ, ◌+◌, ◌*◌, ◌≤◌, ◌<◌, ◌≡◌, sym, ap, ap₂, ◌∙◌, List, ◌++◌, arith, lit≤, ℤ, length, take, drop, length-append, length-drop, length-take-le, drop-drop}
+use lib.Seq.{drop-append-add}
 use Rattle.std.proofs.lemmas.List.{take-append-drop, take-append-le, drop-append-le, take_at, drop_at}
 use Rattle.lists.specs.Lists.{at}
 use Rattle.lists.proofs.Entries.{stretch_at}

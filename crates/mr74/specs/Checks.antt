@@ -1,7 +1,7 @@
 -- What turns a frame call back: document 01, "Turned back by the sheet", document 02, 3/13, 5/13 and 7/13, and 16 to 19 of the state, in groups, in the order
 -- 1, 5, 2, 6, 3, 4, 16 to 19 of a frame sheet, 1, 5, 2, 6, 3, 7, 8, 16 to 19 of an index sheet, and 1, 5, 2, 6, 9, 16 to 19 of an erased sheet.
 -- The theorem is `accepted_gaps` in proofs/Passed.antt.
-use Rattle.std.specs.Prelude.{◌≡◌, not, ◌||◌, true, List, [], ◌∷◌, ◌++◌, ℕ, ◌+◌, ◌<◌, eqb, ℤ, pos, ◌+ℤ◌, length, take, drop, replicate, ◌≤ℤ◌}
+use Rattle.std.specs.Prelude.{◌≡◌, not, ◌||◌, true, List, [], ◌∷◌, ◌++◌, ℕ, ◌+◌, ◌<◌, ◌==◌, ℤ, pos, ◌+ℤ◌, length, take, drop, replicate, ◌≤ℤ◌}
 use Rattle.std.specs.Int.Signed.{lt_z}
 use Rattle.lists.specs.Lists.{at}
 use Rattle.outcome.specs.declared.Refusal.TheVariants.{SheetLength, Lsf, PitchIndex, Gain, OutputLength, LsfGap, Stage}
@@ -14,7 +14,7 @@ use Rattle.mr74.specs.Sheet.{lsfs_of, pitch_indices_of, gains_of}
 
 -- 1: another count of numbers than the sheet's; 5: no room for 160 samples
 abbrev pub length_checks : ℕ → ℕ → ℕ → List Check
-length_checks count numbers room = check (not (eqb numbers count)) SheetLength ∷ check (not (eqb room 160)) OutputLength ∷ []
+length_checks count numbers room = check (not (numbers == count)) SheetLength ∷ check (not (room == 160)) OutputLength ∷ []
 
 -- LSF_GAP of Reorder_lsf
 abbrev pub lsf_gap : ℤ

@@ -1,5 +1,5 @@
 -- The frame call: the core of the frame (Decoder_amr of TS 26.073), then the postfilter over its synthesis samples (Post_Filter).
-use Rattle.std.specs.Prelude.{cond, List, [], ◌++◌, map, ℕ, ℤ, pos, length, replicate}
+use Rattle.std.specs.Prelude.{if◌then◌else◌, List, [], ◌++◌, map, ℕ, ℤ, pos, length, replicate}
 use Rattle.basicop.specs.Ops.{Quotient}
 use Rattle.pitch.specs.Lag.{Lag}
 use Rattle.lpc.specs.declared.Rows.{Rows}
@@ -83,7 +83,7 @@ refused_trace o s out =
 
 -- of what a call's checks come to, what its sheet comes to, the state and the lent output
 abbrev pub trace_by : Outcome → Prepared → State → List ℤ → Trace
-trace_by o p s out = cond (is_accepted o) (accepted_trace o p s) (refused_trace o s out)
+trace_by o p s out = if is_accepted o then accepted_trace o p s else refused_trace o s out
 
 -- of a sheet, a state and the lent output
 unfoldable pub frame_trace : List ℤ → State → List ℤ → Trace
@@ -114,4 +114,4 @@ energies_result answer lent = record { answer = answer; lent = lent }
 abbrev pub energies_call : Outcome → PreparedEnergies → List ℤ → State → List ℤ → EnergiesResult
 energies_call o p energies s out =
     let c = result_of (trace_by o p.frame s out) in
-    energies_result (record { frame = c.answer; next = record { energies = cond (is_accepted o) p.energies energies } }) c.lent
+    energies_result (record { frame = c.answer; next = record { energies = if is_accepted o then p.energies else energies } }) c.lent

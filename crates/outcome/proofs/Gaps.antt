@@ -1,12 +1,6 @@
--- The search for the first number that is too close to the one before. Assumes nothing.
-use Prim.Native.Nat.{ℕ, zero, suc, min, ◌+◌, ◌<◌}
-use mathlib.Core.Path.{◌≡◌, refl}
-use mathlib.Core.Bool.{Bool, true, false, cond, not}
-use mathlib.Core.List.{List, [], ◌∷◌}
-use native.Mathlib.Omega.{arith}
-use lib.IntN.{ℤ, pos, ◌+ℤ◌, ◌-ℤ◌}
-use lib.ListN.{length}
-use lib.Signed.{◌≤ℤ◌, lt_z}
+-- The search for the first number that is too close to the one before.
+use Rattle.std.proofs.Common.{ℕ, zero, suc, min, ◌+◌, ◌<◌, ◌≡◌, refl, Bool, true, false, cond, not, List, [], ◌∷◌, arith, ℤ, pos, ◌+ℤ◌, ◌-ℤ◌, length, ◌≤ℤ◌}
+use lib.Signed.{lt_z}
 use borrow.Author.Tests.{not-true}
 use Rattle.std.specs.Prelude.{position}
 use Rattle.std.specs.List.{zip, position_or_len}

@@ -1,14 +1,7 @@
--- The search for the first number outside 0..=its limit. Assumes nothing.
-use Prim.Native.Nat.{ℕ, zero, suc, ◌+◌, ◌≤◌, ◌<◌, min}
-use mathlib.Core.Path.{◌≡◌, refl, subst}
-use mathlib.Core.Bool.{Bool, true, false, cond, not, ◌||◌}
-use mathlib.Core.List.{List, [], ◌∷◌, ◌++◌, append-nil}
-use native.Mathlib.Omega.{arith}
-use lib.IntN.{ℤ, pos}
-use lib.ListN.{length, replicate}
-use lib.Signed.{◌≤ℤ◌, lt_z}
-use borrow.Author.Tests.{not-true, ltb-false}
-use lib.Dec.{T, ltb}
+-- The search for the first number outside 0..=its limit.
+use Rattle.std.proofs.Common.{ℕ, zero, suc, ◌+◌, ◌≤◌, ◌<◌, min, ◌≡◌, refl, subst, Bool, true, false, cond, not, ◌||◌, List, [], ◌∷◌, ◌++◌, append-nil, arith, ℤ, pos, length, replicate, ◌≤ℤ◌, ltb-false, T, ltb}
+use lib.Signed.{lt_z}
+use borrow.Author.Tests.{not-true}
 use Rattle.std.specs.Prelude.{Option, Some, None, is_some, position}
 use Rattle.std.specs.List.{zip, position_or_len}
 use Rattle.std.proofs.lemmas.Slice.Zip.{length-zip}

@@ -1,5 +1,5 @@
 -- Checks that are tested in order, and two searches: for the first number outside its range, and for the first that is too close to the one before.
-use Rattle.std.specs.Prelude.{◌≡◌, Bool, cond, not, ◌||◌, List, [], ◌∷◌, Option, Some, None, Result, Ok, Err, MatchResult, ℕ, suc, ltb, ℤ, pos, ◌-ℤ◌}
+use Rattle.std.specs.Prelude.{◌≡◌, Bool, if◌then◌else◌, not, ◌||◌, List, [], ◌∷◌, Option, Some, None, Result, Ok, Err, MatchResult, ℕ, suc, nat_lt, ℤ, pos, ◌-ℤ◌}
 use Rattle.std.specs.Int.Signed.{lt_z}
 use Rattle.outcome.specs.declared.Refusal.{Refusal}
 use Rattle.outcome.specs.Outcome.{Outcome}
@@ -14,12 +14,12 @@ check met refusal = record { met = met; refusal = refusal }
 
 -- the check by a search that gives the place of the first fault, and `count` where there is none
 abbrev pub place_check : (ℕ → Refusal) → ℕ → ℕ → Check
-place_check refusal place count = check (ltb place count) (refusal place)
+place_check refusal place count = check (nat_lt place count) (refusal place)
 
 -- the first check that is met turns the call back. Groups of checks are joined by `++`
 unfoldable pub first_met : List Check → Outcome
 first_met [] = Ok tt
-first_met (c ∷ checks) = cond c.met (Err c.refusal) (first_met checks)
+first_met (c ∷ checks) = if c.met then Err c.refusal else first_met checks
 
 -- what a function gives that hands on what its checks come to: where they accept, a value, of which P holds; else their refusal
 abbrev pub Checked : {X : Type 0} → Result X Refusal → Outcome → (X → Type 0) → Type 0
@@ -28,7 +28,7 @@ Checked result outcome P = MatchResult result (λ x. (outcome ≡ Ok tt) × P x)
 -- ---- searches
 -- what a search found: the place of the first fault, where it is below the count
 abbrev pub found : ℕ → ℕ → Option ℕ
-found place count = cond (ltb place count) (Some place) None
+found place count = if nat_lt place count then Some place else None
 
 -- ---- numbers with a limit each
 -- a number lies in 0..=limit
@@ -39,7 +39,7 @@ within limit number = not (lt_z number (pos 0) || lt_z limit number)
 unfoldable pub first_outside : List ℤ → List ℤ → ℕ
 first_outside [] limits = 0
 first_outside (number ∷ numbers) [] = 0
-first_outside (number ∷ numbers) (limit ∷ limits) = cond (within limit number) (suc (first_outside numbers limits)) 0
+first_outside (number ∷ numbers) (limit ∷ limits) = if within limit number then suc (first_outside numbers limits) else 0
 
 -- ---- numbers that rise by a gap
 -- a number lies at least `gap` above the one before it
@@ -49,4 +49,4 @@ apart gap before number = not (lt_z (number -ℤ before) gap)
 -- the place of the first number less than `gap` above the one before it, the count where none is; before the first stands `before`
 unfoldable pub first_close : ℤ → ℤ → List ℤ → ℕ
 first_close gap before [] = 0
-first_close gap before (number ∷ numbers) = cond (apart gap before number) (suc (first_close gap number numbers)) 0
+first_close gap before (number ∷ numbers) = if apart gap before number then suc (first_close gap number numbers) else 0

@@ -1,5 +1,5 @@
 -- Refusals: document 01, "Turned back by the sheet" and "Turned back by the state", and document 02, 3/13 (number 6), 5/13 (7 and 8) and 7/13 (9, 18, 19).
-use Rattle.std.specs.Prelude.{Bool, ℕ, eqb, Result, Ok, Err}
+use Rattle.std.specs.Prelude.{Bool, ℕ, ◌==◌, Result, Ok, Err}
 use Rattle.outcome.specs.declared.Refusal.{Refusal}
 use Rattle.outcome.specs.declared.Refusal.TheVariants.{SheetLength, Lsf, PitchIndex, Gain, OutputLength, LsfGap, Table, GainIndex, Stage}
 use Rattle.outcome.specs.declared.Refusal.TheVariants.{RecordShort, Tag, Version, Layout, BodyShort, Sharpening, SmoothedGain, GainField, LastLag}
@@ -61,4 +61,4 @@ place_of (Err refusal) = refusal_place refusal
 
 -- document 01's "accepted": no check turned the call back
 abbrev pub is_accepted : Outcome → Bool
-is_accepted o = eqb (number_of o) 0
+is_accepted o = number_of o == 0

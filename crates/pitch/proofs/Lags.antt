@@ -1,13 +1,5 @@
--- What the definitions of Lag.antt come to: by one computed test over all 256 indices where an index is in it. Assumes nothing.
-use mathlib.Core.Path.{◌≡◌, refl, ap, ap₂, ◌∙◌}
-use mathlib.Core.Bool.{Bool, true, false, cond, ◌&&◌}
-use Prim.Native.Nat.{ℕ, min, max, ◌+◌, ◌-◌, ◌/◌, ◌%◌, ◌<◌, ◌≤◌}
-use native.Mathlib.Omega.{arith}
-use borrow.Author.Tests.{lt-ltb, le-ltb, ltb-true, ltb-false}
-use lib.Dec.{T, ltb, eqb, lit<, lit≤}
-use lib.IntN.{ℤ, pos, negsuc, ◌+ℤ◌, ◌-ℤ◌}
-use lib.Signed.{◌≤ℤ◌}
-use mir.Syntax.{w16}
+-- What the definitions of Lag.antt come to: by one computed test over all 256 indices where an index is in it.
+use Rattle.std.proofs.Common.{◌≡◌, refl, ap, ap₂, ◌∙◌, Bool, true, false, cond, ◌&&◌, ℕ, min, max, ◌+◌, ◌-◌, ◌/◌, ◌%◌, ◌<◌, ◌≤◌, arith, lt-ltb, le-ltb, ltb-true, ltb-false, T, ltb, eqb, lit<, lit≤, ℤ, pos, negsuc, ◌+ℤ◌, ◌-ℤ◌, ◌≤ℤ◌, w16}
 use Rattle.lists.specs.Lists.{eq_z}
 use Rattle.lists.proofs.Table.{both_pass, below_each, eq_z→eq}
 use Rattle.basicop.specs.Ops.{clamp, asr, add, sub, mult}

@@ -1,18 +1,8 @@
--- The correlation of an impulse response: as a fold, and that it is at most the energy, both clamped, for every list of numbers. Assumes nothing.
-use mathlib.Core.Path.{◌≡◌, refl, sym, ap, subst, ◌∙◌}
-use mathlib.Core.Bool.{Bool, true, false}
-use mathlib.Core.List.{List, [], ◌∷◌, foldl, foldl-append}
-use Prim.Native.Nat.{ℕ, zero, suc, ◌+◌, ◌*◌, ◌-◌, ◌<◌, ◌≤◌}
-use native.Mathlib.Nat.{le_refl}
-use native.Mathlib.Omega.{arith}
-use borrow.Author.Tests.{leb-true, leb-false}
-use lib.Dec.{leb, lit<}
-use lib.ListN.{length, take, drop, get_or}
-use lib.Seq.{take-length, take-suc}
-use lib.IntN.{ℤ, pos, negsuc, nat_abs, ◌+ℤ◌, ◌*ℤ◌}
-use lib.Signed.{◌≤ℤ◌}
-use mir.Syntax.{Width, w16, w32}
-use mir.Val.{SFits}
+-- The correlation of an impulse response: as a fold, and that it is at most the energy, both clamped, for every list of numbers.
+use Rattle.std.proofs.Common.{◌≡◌, refl, sym, ap, subst, ◌∙◌, Bool, true, false, List, [], ◌∷◌, ℕ, zero, suc, ◌+◌, ◌*◌, ◌-◌, ◌<◌, ◌≤◌, le_refl, arith, leb-true, leb-false, leb, lit<, length, take, drop, get_or, take-suc, ℤ, pos, negsuc, nat_abs, ◌+ℤ◌, ◌*ℤ◌, ◌≤ℤ◌, w16, w32, SFits}
+use mathlib.Core.List.{foldl, foldl-append}
+use lib.Seq.{take-length}
+use mir.Syntax.{Width}
 use Rattle.std.specs.List.{zip}
 use Rattle.std.proofs.lemmas.List.{get_or_default}
 use Rattle.std.proofs.lemmas.Slice.Zip.{length-zip, get_or-zip}

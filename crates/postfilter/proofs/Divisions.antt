@@ -1,11 +1,5 @@
--- The postfilter of a frame tells as many quotients as `tilts_divide` and `controls_divide` say. Assumes nothing.
-use mathlib.Core.Path.{◌≡◌, refl, ap, ap₂, ◌∙◌}
-use mathlib.Core.Bool.{Bool, true, false}
-use mathlib.Core.List.{List}
-use Prim.Native.Nat.{ℕ, ◌+◌}
-use native.Mathlib.Omega.{arith}
-use lib.IntN.{ℤ, pos}
-use lib.ListN.{length, length-append}
+-- The postfilter of a frame tells as many quotients as `tilts_divide` and `controls_divide` say.
+use Rattle.std.proofs.Common.{◌≡◌, refl, ap, ap₂, ◌∙◌, Bool, true, false, List, ℕ, ◌+◌, arith, ℤ, pos, length, length-append}
 use lib.Signed.{le_z}
 use Rattle.lists.specs.Lists.{iter, one_if, count}
 use Rattle.basicop.proofs.Tests.{yes_less, no_less, at_most_yes, at_most_no}

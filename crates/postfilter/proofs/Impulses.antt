@@ -1,15 +1,6 @@
--- The impulse response: how the code comes by it, and its first sample. Assumes nothing.
-use Prim.Native.Nat.{ℕ, zero, suc, ◌-◌, ◌<◌}
-use mathlib.Core.Path.{◌≡◌, refl, sym, ◌∙◌}
-use mathlib.Core.List.{List, [], ◌∷◌, ◌++◌, append_assoc}
-use native.Mathlib.Nat.{add-zero}
-use native.Mathlib.Omega.{arith}
-use lib.Dec.{lit<}
-use lib.IntN.{ℤ, pos, ◌-ℤ◌, ◌*ℤ◌}
-use lib.ListN.{length, take, replicate, length-append}
-use lib.Seq.{take_at, get_or_at, get_or-take, get_or-drop}
-use mir.Syntax.{w32}
-use mir.Val.{SFits}
+-- The impulse response: how the code comes by it, and its first sample.
+use Rattle.std.proofs.Common.{ℕ, zero, suc, ◌-◌, ◌<◌, ◌≡◌, refl, sym, ◌∙◌, List, [], ◌∷◌, ◌++◌, append_assoc, add-zero, arith, lit<, ℤ, pos, ◌-ℤ◌, ◌*ℤ◌, length, take, replicate, length-append, take_at, get_or-take, get_or-drop, w32, SFits}
+use lib.Seq.{get_or_at}
 use Rattle.lists.specs.Lists.{at}
 use Rattle.basicop.specs.Ops.{clamp, asr, l_add, l_sub, l_mult, l_shl, round}
 use borrow.Author.Differences.{product_is}

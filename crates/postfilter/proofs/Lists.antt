@@ -1,10 +1,5 @@
--- Pairs of a list and a longer one. Assumes nothing.
-use Prim.Native.Nat.{suc, ◌≤◌}
-use mathlib.Core.Path.{◌≡◌, refl, ap}
-use mathlib.Core.List.{List, [], ◌∷◌}
-use native.Mathlib.Nat.{not-suc-le-zero, le_of_suc-le-suc}
-use lib.IntN.{ℤ}
-use lib.ListN.{length}
+-- Pairs of a list and a longer one.
+use Rattle.std.proofs.Common.{suc, ◌≤◌, ◌≡◌, refl, ap, List, [], ◌∷◌, not-suc-le-zero, le_of_suc-le-suc, ℤ, length}
 use Rattle.lists.specs.Lists.{pairwise}
 
 -- the second list may be longer

@@ -1,10 +1,5 @@
--- preemphasis: its length and its entries. Assumes nothing.
-use Prim.Native.Nat.{ℕ, ◌<◌}
-use mathlib.Core.Path.{◌≡◌}
-use mathlib.Core.List.{List, ◌∷◌}
-use native.Mathlib.Omega.{arith}
-use lib.IntN.{ℤ}
-use lib.ListN.{length}
+-- preemphasis: its length and its entries.
+use Rattle.std.proofs.Common.{ℕ, ◌<◌, ◌≡◌, List, ◌∷◌, arith, ℤ, length}
 use Rattle.lists.specs.Lists.{at}
 use Rattle.lists.proofs.Entries.{at_pairwise}
 use Rattle.postfilter.specs.Preemphasis.{emphasised, preemphasised}

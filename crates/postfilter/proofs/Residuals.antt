@@ -1,16 +1,7 @@
--- The residual's sum: where the row's weight is below 32768 no step clamps. Assumes nothing.
-use Prim.Native.Nat.{ℕ, suc, ◌+◌, ◌*◌, ◌-◌, ◌^◌, ◌≤◌, ◌<◌}
-use mathlib.Core.Path.{◌≡◌, sym, ◌∙◌}
-use mathlib.Core.Bool.{Bool, true}
-use mathlib.Core.List.{List}
-use native.Mathlib.Nat.{le_refl, add_comm}
-use native.Mathlib.Numerals.{add-one}
-use native.Mathlib.Omega.{arith}
-use lib.IntN.{ℤ, pos, nat_abs}
+-- The residual's sum: where the row's weight is below 32768 no step clamps.
+use Rattle.std.proofs.Common.{ℕ, suc, ◌+◌, ◌*◌, ◌-◌, ◌^◌, ◌≤◌, ◌<◌, ◌≡◌, sym, ◌∙◌, Bool, true, List, le_refl, add_comm, add-one, arith, ℤ, pos, nat_abs, length, take, drop, get_or-take, length-take-le}
 use lib.Signed.{mag, nat_abs-le}
 use Rattle.lists.specs.Lists.{at}
-use lib.ListN.{length, take, drop}
-use lib.Seq.{get_or-take, length-take-le}
 use Rattle.lists.proofs.Entries.{at_drop}
 use Rattle.lists.proofs.Count.{Iter, iter_none, iter_more, iter_same}
 use Rattle.basicop.specs.Ops.{l_mult, l_mac}

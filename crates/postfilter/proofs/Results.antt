@@ -1,17 +1,5 @@
 -- What a subframe and a frame of the postfilter give: tilts and divisors, whatever comes; lengths and ranges, where the memory and the samples have theirs.
--- Assumes nothing.
-use Prim.Native.Nat.{ℕ, zero, suc, ◌+◌, ◌*◌, ◌<◌, ◌≤◌}
-use mathlib.Core.Path.{◌≡◌, refl, ◌∙◌}
-use mathlib.Core.List.{List, [], ◌∷◌, ◌++◌}
-use native.Mathlib.Numerals.{add-one}
-use native.Mathlib.Nat.{not-suc-le-zero, mul-suc}
-use native.Mathlib.Omega.{arith}
-use lib.Dec.{lit≤}
-use lib.IntN.{ℤ, pos}
-use lib.ListN.{length, drop, length-append}
-use lib.Signed.{◌≤ℤ◌}
-use mir.Syntax.{w16}
-use mir.Val.{SFits}
+use Rattle.std.proofs.Common.{ℕ, zero, suc, ◌+◌, ◌*◌, ◌<◌, ◌≤◌, ◌≡◌, refl, ◌∙◌, List, [], ◌∷◌, ◌++◌, add-one, not-suc-le-zero, mul-suc, arith, lit≤, ℤ, pos, length, drop, length-append, ◌≤ℤ◌, w16, SFits}
 use Rattle.lists.specs.Lists.{at, iter, Every}
 use Rattle.lists.proofs.Entries.{every_append, every_map}
 use Rattle.basicop.specs.Ops.{Quotient}

@@ -1,7 +1,5 @@
--- A subframe by its steps. Assumes nothing.
-use mathlib.Core.Path.{◌≡◌}
-use mathlib.Core.List.{List, ◌++◌}
-use lib.IntN.{ℤ}
+-- A subframe by its steps.
+use Rattle.std.proofs.Common.{◌≡◌, List, ◌++◌, ℤ}
 use Rattle.lists.specs.Lists.{at}
 use Rattle.synthesis.specs.declared.Filtered.{Filtered}
 use Rattle.synthesis.specs.Synthesis as synthesis

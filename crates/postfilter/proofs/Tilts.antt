@@ -1,15 +1,7 @@
--- The tilt: its division is in order, and it lies in 0..=26214, for every row. Assumes nothing.
-use mathlib.Core.Path.{◌≡◌, refl, ap, ◌∙◌}
-use mathlib.Core.Bool.{Bool, true, false, cond}
-use mathlib.Core.List.{List}
-use Prim.Native.Nat.{ℕ, ◌*◌, ◌/◌, ◌<◌, ◌≤◌}
-use native.Mathlib.Nat.{div-lt_iff_lt-mul, div-mul-le_self, div-le_of_le-mul}
-use native.Mathlib.Omega.{arith}
-use lib.Dec.{lit<}
-use lib.IntN.{ℤ, pos, negsuc}
-use lib.Signed.{◌≤ℤ◌, ◌<ℤ◌, le_z, le_z_yes}
-use mir.Syntax.{w16}
-use mir.Val.{SFits}
+-- The tilt: its division is in order, and it lies in 0..=26214, for every row.
+use Rattle.std.proofs.Common.{◌≡◌, refl, ap, ◌∙◌, Bool, true, false, cond, List, ℕ, ◌*◌, ◌/◌, ◌<◌, ◌≤◌, div-lt_iff_lt-mul, div-mul-le_self, arith, lit<, ℤ, pos, negsuc, ◌≤ℤ◌, ◌<ℤ◌, w16, SFits}
+use native.Mathlib.Nat.{div-le_of_le-mul}
+use lib.Signed.{le_z, le_z_yes}
 use Rattle.lists.specs.Lists.{at, Every}
 use Rattle.basicop.specs.Ops.{asr, mult, div_s}
 use Rattle.basicop.specs.Divided.{Divided, undivided, divided, Divides}

@@ -1,5 +1,5 @@
 -- The tilt of Post_Filter of TS 26.073 (TS 26.090, 6.2.1), from the impulse response of the weighted filters. It depends on the coefficient row alone.
-use Rattle.std.specs.Prelude.{cond, List, ◌++◌, ℕ, suc, ◌-◌, ℤ, pos, length, replicate}
+use Rattle.std.specs.Prelude.{if◌then◌else◌, List, ◌++◌, ℕ, suc, ◌-◌, ℤ, pos, length, replicate}
 use Rattle.std.specs.Int.Signed.{le_z}
 use Rattle.lists.specs.Lists.{at, iter}
 use Rattle.basicop.specs.Ops.{mult, l_mac, extract_h}
@@ -27,7 +27,7 @@ r1 h = extract_h (correlation h)
 
 -- 0 where r1 is 0 or less; else r1 by MU (0.8 in Q15), divided by r0
 unfoldable pub tilt_of : List ℤ → Divided ℤ
-tilt_of h = cond (le_z (r1 h) (pos 0)) (undivided (pos 0)) (divided (mult (r1 h) (pos 26214)) (r0 h))
+tilt_of h = if le_z (r1 h) (pos 0) then undivided (pos 0) else divided (mult (r1 h) (pos 26214)) (r0 h)
 
 -- of a row
 abbrev pub response : List ℤ → List ℤ

@@ -1,14 +1,5 @@
--- Reader and writer together: the statements of specs/Handover.antt. Assumes nothing.
-use mathlib.Core.Path.{◌≡◌, refl, ap, ap₂, sym, ◌∙◌}
-use mathlib.Core.Bool.{true}
-use mathlib.Core.List.{List, [], ◌++◌, append_assoc, append-nil}
-use Prim.Native.Nat.{ℕ, ◌+◌, ◌-◌}
-use native.Mathlib.Omega.{arith}
-use lib.Dec.{ltb}
-use lib.IntN.{ℤ}
-use lib.ListN.{length, take, drop, length-append}
-use lib.Seq.{take_at, drop_at}
-use borrow.Author.Tests.{le-ltb}
+-- Reader and writer together: the statements of specs/Handover.antt.
+use Rattle.std.proofs.Common.{◌≡◌, refl, ap, ap₂, sym, ◌∙◌, true, List, [], ◌++◌, append_assoc, append-nil, ℕ, ◌+◌, ◌-◌, arith, ltb, ℤ, length, take, drop, length-append, take_at, drop_at, le-ltb}
 use Rattle.std.specs.Prelude.{Ok}
 use Rattle.basicop.specs.Words.{Words}
 use Rattle.outcome.specs.declared.Refusal.TheVariants.{RecordShort}

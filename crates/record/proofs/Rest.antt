@@ -1,12 +1,5 @@
--- What stands behind the note of an accepted record is its state's numbers and its version's trailer. Assumes nothing.
-use mathlib.Core.Path.{◌≡◌, ap, ap₂, sym, ◌∙◌}
-use mathlib.Core.Bool.{true}
-use mathlib.Core.List.{List, [], ◌∷◌, ◌++◌}
-use Prim.Native.Nat.{ℕ, zero, suc, ◌+◌, ◌-◌, ◌*◌}
-use native.Mathlib.Omega.{arith}
-use lib.IntN.{ℤ}
-use lib.ListN.{length, take, drop, length-append, length-drop, take-append-drop}
-use lib.Seq.{drop-drop, get_or-drop, length-take-le, take_at}
+-- What stands behind the note of an accepted record is its state's numbers and its version's trailer.
+use Rattle.std.proofs.Common.{◌≡◌, ap, ap₂, sym, ◌∙◌, true, List, [], ◌∷◌, ◌++◌, ℕ, zero, suc, ◌+◌, ◌-◌, ◌*◌, arith, ℤ, length, take, drop, length-append, length-drop, take-append-drop, drop-drop, get_or-drop, length-take-le, take_at}
 use Rattle.outcome.specs.Outcome.{is_accepted}
 use Rattle.outcome.specs.Checks.{first_met}
 use Rattle.state.specs.declared.State.{State}

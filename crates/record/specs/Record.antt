@@ -1,8 +1,8 @@
 -- The handover record of document 01: a note of any length; a body of signed 16-bit numbers; a trailer of 8 bytes, which are
 -- the tag 4D 37, and, 16 bits each, version, distance back from the trailer to the body, and count of the body's numbers.
 -- Versions 2 and 1 are read (document 02, 7/13).
-use Rattle.std.specs.Prelude.{Bool, true, false, cond, not, ◌&&◌, List, [], ◌∷◌, ◌++◌, ℕ, ◌+◌, ◌-◌, ◌*◌, eqb, ltb, ℤ, pos}
-use Rattle.std.specs.Prelude.{length, take, drop, get_or, replicate}
+use Rattle.std.specs.Prelude.{Bool, true, false, if◌then◌else◌, not, ◌&&◌, List, [], ◌∷◌, ◌++◌, ℕ, ◌+◌, ◌-◌, ◌*◌, ◌==◌, nat_lt, ℤ, pos}
+use Rattle.std.specs.Prelude.{length, take, drop, slice_index, replicate}
 use Rattle.outcome.specs.declared.Refusal.TheVariants.{OutputLength, RecordShort, Tag, Version, Layout, BodyShort}
 use Rattle.outcome.specs.Outcome.{Outcome, is_accepted}
 use Rattle.outcome.specs.Checks.{Check, check, first_met}
@@ -36,11 +36,11 @@ versions = current ∷ first ∷ []
 -- whether a version is among them, and its trailer
 abbrev pub known : ℕ → List Trailer → Bool
 known v [] = false
-known v (t ∷ ts) = cond (eqb v t.version) true (known v ts)
+known v (t ∷ ts) = if v == t.version then true else known v ts
 
 abbrev pub trailer_of : ℕ → List Trailer → Trailer
 trailer_of v [] = record { version = v; distance = 0; count = 0; missing = [] }
-trailer_of v (t ∷ ts) = cond (eqb v t.version) t (trailer_of v ts)
+trailer_of v (t ∷ ts) = if v == t.version then t else trailer_of v ts
 
 -- ---- the parts of a record, by its last 8 bytes
 abbrev pub end_of : List ℕ → List ℕ
@@ -48,10 +48,10 @@ end_of b = drop (length b - 8) b
 
 -- of 8 bytes: a number in two of them, and whether they begin with the tag
 abbrev pub field_at : List ℕ → ℕ → ℕ
-field_at t k = unsigned (get_or t k 0) (get_or t (k + 1) 0)
+field_at t k = unsigned (slice_index t k) (slice_index t (k + 1))
 
 abbrev pub tagged : List ℕ → Bool
-tagged t = eqb (get_or t 0 0) 0x4D && eqb (get_or t 1 0) 0x37
+tagged t = slice_index t 0 == 0x4D && slice_index t 1 == 0x37
 
 abbrev pub version_of : List ℕ → ℕ
 version_of b = field_at (end_of b) 2
@@ -76,7 +76,7 @@ numbers_in b = words (take (distance_of b) (drop (note_length b) b)) ++ (trailer
 -- ---- the reader
 -- 11: under 8 bytes
 abbrev pub size_checks : ℕ → List Check
-size_checks size = check (ltb size 8) RecordShort ∷ []
+size_checks size = check (nat_lt size 8) RecordShort ∷ []
 
 -- of the last 8 bytes. 12: tag differs; 13: unknown version; 14: distance or count is not the version's
 abbrev pub trailer_checks : List ℕ → List Check
@@ -84,12 +84,12 @@ trailer_checks t =
     let v = trailer_of (field_at t 2) versions in
     check (not (tagged t)) Tag ∷
     check (not (known (field_at t 2) versions)) Version ∷
-    check (not (eqb (field_at t 4) v.distance && eqb (field_at t 6) v.count)) Layout ∷
+    check (not (field_at t 4 == v.distance && field_at t 6 == v.count)) Layout ∷
     []
 
 -- 15: fewer bytes before the trailer than the version's distance
 abbrev pub body_checks : ℕ → ℕ → List Check
-body_checks before distance = check (ltb before distance) BodyShort ∷ []
+body_checks before distance = check (nat_lt before distance) BodyShort ∷ []
 
 -- 11 to 15: what is tested of the bytes
 abbrev pub byte_checks : List ℕ → List Check
@@ -121,9 +121,9 @@ read_result answer note = record { answer = answer; note = note }
 unfoldable pub read_call : List ℕ → ReadResult
 read_call b =
     let o = record_outcome b in
-    cond (is_accepted o)
-    (read_result (record { outcome = o; state = state_of (numbers_in b) }) (note_of b))
-    (read_result (refused_answer o) [])
+    if is_accepted o
+    then read_result (record { outcome = o; state = state_of (numbers_in b) }) (note_of b)
+    else read_result (refused_answer o) []
 
 -- ---- the writer
 abbrev pub trailer_bytes : Trailer → List ℕ
@@ -139,7 +139,7 @@ record_length = current.distance + 8
 
 -- 5: no room for them
 abbrev pub room_checks : ℕ → List Check
-room_checks room = check (not (eqb room record_length)) OutputLength ∷ []
+room_checks room = check (not (room == record_length)) OutputLength ∷ []
 
 -- of a state and the length of the lent bytes
 abbrev pub write_checks : State → ℕ → List Check
@@ -156,4 +156,4 @@ write_result outcome lent = record { outcome = outcome; lent = lent }
 unfoldable pub write_call : State → List ℕ → WriteResult
 write_call s out =
     let o = first_met (write_checks s (length out)) in
-    cond (is_accepted o) (write_result o (encoded s)) (write_result o out)
+    if is_accepted o then write_result o (encoded s) else write_result o out

@@ -1,11 +1,5 @@
--- Four rows of a record, each read where the one before ends. Assumes nothing.
-use mathlib.Core.Path.{◌≡◌, ap, ◌∙◌}
-use mathlib.Core.List.{List, [], ◌∷◌}
-use Prim.Native.Nat.{ℕ, ◌+◌, ◌<◌}
-use native.Mathlib.Omega.{arith}
-use lib.IntN.{ℤ}
-use lib.ListN.{length, take, drop, length-drop}
-use lib.Seq.{drop-drop}
+-- Four rows of a record, each read where the one before ends.
+use Rattle.std.proofs.Common.{◌≡◌, ap, ◌∙◌, List, [], ◌∷◌, ℕ, ◌+◌, ◌<◌, arith, ℤ, length, take, drop, length-drop, drop-drop}
 use Rattle.lists.specs.Parts.{cut}
 use Rattle.coding.specs.Bytes.{words}
 use Rattle.coding.proofs.Words.{words_cut}

@@ -1,5 +1,5 @@
 // A record's words, read one after another.
-ghost use Rattle.std.specs.Prelude.{◌≡◌, ◌↔◌, ℕ, ◌*◌, List, [], ◌∷◌, IsTrue, length, take, get_or};
+ghost use Rattle.std.specs.Prelude.{◌≡◌, ◌↔◌, ℕ, ◌*◌, List, [], ◌∷◌, IsTrue, length, take, slice_index};
 ghost use Rattle.lists.specs.Parts.{cut};
 ghost use Rattle.decoder.specs.Core.{row_list};
 ghost use Rattle.coding.specs.Bytes.{signed16, unsigned, words};
@@ -60,14 +60,14 @@ impl<'a> Reader<'a> {
     }
 
     pub fn number(&mut self) -> Option<i16>
-        ensures { Reads 2 (λ x. x ≡ signed16 (unsigned (get_or self.old 0 0) (get_or self.old 1 0))) self.old self.new result }
+        ensures { Reads 2 (λ x. x ≡ signed16 (unsigned (slice_index self.old 0) (slice_index self.old 1))) self.old self.new result }
     {
         Some(self.bits()?.cast_signed())
     }
 
     // 16 bits, as they stand.
     pub fn bits(&mut self) -> Option<u16>
-        ensures { Reads 2 (λ x. x ≡ unsigned (get_or self.old 0 0) (get_or self.old 1 0)) self.old self.new result }
+        ensures { Reads 2 (λ x. x ≡ unsigned (slice_index self.old 0) (slice_index self.old 1)) self.old self.new result }
     {
         Some(u16::from_le_bytes(*self.array()?))
     }

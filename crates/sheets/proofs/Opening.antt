@@ -1,10 +1,5 @@
--- The first step, where the record is accepted and where it is refused, and the frame call of a sheet's bytes. Assumes nothing.
-use mathlib.Core.Path.{◌≡◌, refl, ap, ◌∙◌}
-use mathlib.Core.Bool.{true, false}
-use mathlib.Core.List.{List, []}
-use Prim.Native.Nat.{ℕ}
-use lib.IntN.{ℤ, pos}
-use lib.ListN.{replicate}
+-- The first step, where the record is accepted and where it is refused, and the frame call of a sheet's bytes.
+use Rattle.std.proofs.Common.{◌≡◌, refl, ap, ◌∙◌, true, false, List, [], ℕ, ℤ, pos, replicate}
 use Rattle.state.specs.declared.State.{State}
 use Rattle.outcome.specs.Outcome.{number_of, is_accepted}
 use Rattle.record.specs.declared.Answer.{Answer}

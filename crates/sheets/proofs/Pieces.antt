@@ -1,9 +1,5 @@
--- The sheets of an input one by one: none where nothing is left, and otherwise the first 364 bytes and the sheets of the rest. Assumes nothing.
-use mathlib.Core.Path.{◌≡◌, refl}
-use native.Mathlib.Omega.{arith}
-use mathlib.Core.List.{List, [], ◌∷◌}
-use Prim.Native.Nat.{ℕ, suc, ◌+◌, ◌-◌, ◌/◌, ◌<◌}
-use lib.ListN.{length, take, drop, length-drop}
+-- The sheets of an input one by one: none where nothing is left, and otherwise the first 364 bytes and the sheets of the rest.
+use Rattle.std.proofs.Common.{◌≡◌, refl, arith, List, [], ◌∷◌, ℕ, suc, ◌+◌, ◌-◌, ◌/◌, ◌<◌, length, take, drop, length-drop}
 use Rattle.sheets.specs.Sheets.{sheets_of}
 
 -- one sheet more than in the rest

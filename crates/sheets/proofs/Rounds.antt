@@ -1,8 +1,5 @@
--- The rounds of a loop over an input: each reads a sheet as far as it comes, takes a step on it, and leaves the rounds after it the rest. Assumes nothing.
-use mathlib.Core.Path.{◌≡◌, sym, ap, ◌∙◌}
-use mathlib.Core.List.{List}
-use Prim.Native.Nat.{ℕ, suc}
-use lib.ListN.{take, drop}
+-- The rounds of a loop over an input: each reads a sheet as far as it comes, takes a step on it, and leaves the rounds after it the rest.
+use Rattle.std.proofs.Common.{◌≡◌, sym, ap, ◌∙◌, List, ℕ, suc, take, drop}
 use Rattle.std.specs.Prelude.{Option, None, Some, IfSome}
 use Rattle.sheets.specs.Sheets.{sheet_bytes}
 use Rattle.sheets.specs.Reading.{TakesFirst}

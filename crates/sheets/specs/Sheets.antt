@@ -1,5 +1,5 @@
 -- What a program of the bench reads: a version 1 record, then sheets one by one. Document 01, "The bench program's lines".
-use Rattle.std.specs.Prelude.{Bool, true, false, cond, List, [], ℕ, ◌+◌, ◌/◌, pos, length, replicate}
+use Rattle.std.specs.Prelude.{Bool, true, false, if◌then◌else◌, List, [], ℕ, ◌+◌, ◌/◌, pos, length, replicate}
 use Rattle.std.specs.declared.ops.ControlFlow.{ControlFlow}
 use Rattle.std.specs.declared.ops.ControlFlow.TheVariants.{Continue, Break}
 use Rattle.lists.specs.Parts.{cut}
@@ -48,4 +48,4 @@ told make step = told_by (make step.made) step.next
 unfoldable pub opening_step : List ℕ → StepResult
 opening_step bytes =
     let a = (read_call bytes).answer in
-    cond (is_accepted a.outcome) (step_result [] a.state true) (step_result (state_line (number_of a.outcome)) a.state false)
+    if is_accepted a.outcome then step_result [] a.state true else step_result (state_line (number_of a.outcome)) a.state false

@@ -1,11 +1,5 @@
--- How large totals can be, by the count of accepted calls. Assumes nothing.
-use Prim.Native.Nat.{ℕ, ◌*◌, ◌^◌, ◌≤◌}
-use mathlib.Core.Path.{◌≡◌, refl}
-use mathlib.Core.Bool.{Bool, true, false}
-use mathlib.Core.List.{List, [], ◌∷◌}
-use native.Mathlib.Omega.{arith}
-use lib.IntN.{ℤ, nat_abs}
-use lib.ListN.{length}
+-- How large totals can be, by the count of accepted calls.
+use Rattle.std.proofs.Common.{ℕ, ◌*◌, ◌^◌, ◌≤◌, ◌≡◌, refl, Bool, true, false, List, [], ◌∷◌, arith, ℤ, nat_abs, length}
 use Rattle.lists.specs.Lists.{one_if}
 use Rattle.basicop.specs.Words.{Words}
 use Rattle.basicop.proofs.Range.{nat_abs_add}

@@ -1,9 +1,5 @@
--- The report's line, field by field. Assumes nothing.
-use mathlib.Core.Path.{◌≡◌}
-use mathlib.Core.List.{List, [], ◌∷◌, ◌++◌, append_assoc}
-use Prim.Native.Nat.{ℕ}
-use borrow.Author.Tests.{eq-eqb, ne_eqb}
-use lib.IntN.{ℤ}
+-- The report's line, field by field.
+use Rattle.std.proofs.Common.{◌≡◌, List, [], ◌∷◌, ◌++◌, append_assoc, ℕ, eq-eqb, ne_eqb, ℤ}
 use Rattle.lines.specs.Lines.{decimal, integer, line_feed, field}
 use Rattle.shift_report.specs.declared.Totals.{Totals}
 use Rattle.shift_report.specs.Report.{mean_of, none_word, mean_field, report_line}

@@ -1,8 +1,7 @@
--- The mean of numbers by their sum, rounded toward minus infinity: what that says. Assumes nothing.
-use mathlib.Core.Path.{◌≡◌, ap, ◌∙◌}
-use Prim.Native.Nat.{ℕ, ◌/◌}
-use native.Mathlib.Nat.{div-mul-le_self, lt-div-mul-add}
-use lib.IntN.{ℤ, pos, negsuc, ◌+ℤ◌, ◌*ℤ◌, +ℤ_one, suc_ℤ-*ℤ}
+-- The mean of numbers by their sum, rounded toward minus infinity: what that says.
+use Rattle.std.proofs.Common.{◌≡◌, ap, ◌∙◌, ℕ, ◌/◌, div-mul-le_self, ℤ, pos, negsuc, ◌+ℤ◌, ◌*ℤ◌}
+use native.Mathlib.Nat.{lt-div-mul-add}
+use lib.IntN.{+ℤ_one, suc_ℤ-*ℤ}
 use borrow.Author.Differences.{sum_is_lem, product_is}
 use Rattle.basicop.proofs.Ints.{arith_ℤ}
 use Rattle.shift_report.specs.Report.{mean_of, MeanFloor}

@@ -1,12 +1,7 @@
--- Totals of one list after another are those of both together. Assumes nothing.
-use Prim.Native.Nat.{ℕ, ◌+◌}
-use mathlib.Core.Path.{◌≡◌, refl, ap, ◌∙◌}
-use mathlib.Core.Bool.{Bool, true, false, not}
-use mathlib.Core.List.{List, [], ◌∷◌, ◌++◌, map, map-append}
-use native.Mathlib.Omega.{arith}
-use native.Mathlib.Nat.{zero-add, add-zero, add_assoc}
-use lib.ListN.{length}
-use lib.IntN.{ℤ, ◌+ℤ◌, +ℤ_idl, +ℤ_idr, +ℤ_assoc}
+-- Totals of one list after another are those of both together.
+use Rattle.std.proofs.Common.{ℕ, ◌+◌, ◌≡◌, refl, ap, ◌∙◌, Bool, true, false, not, List, [], ◌∷◌, ◌++◌, map, arith, zero-add, add-zero, add_assoc, length, ℤ, ◌+ℤ◌}
+use mathlib.Core.List.{map-append}
+use lib.IntN.{+ℤ_idl, +ℤ_idr, +ℤ_assoc}
 use Rattle.lists.specs.Lists.{one_if, count, selected, total_z}
 use Rattle.lists.specs.Parts.{total}
 use Rattle.lists.proofs.Sums.{count_append, total_append, total_z_append, selected_append}

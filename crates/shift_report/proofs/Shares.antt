@@ -1,10 +1,6 @@
--- What one call adds: an accepted one all its numbers, a refused one a count. Assumes nothing.
-use Prim.Native.Nat.{ℕ, ◌+◌}
-use mathlib.Core.Path.{◌≡◌, refl}
-use mathlib.Core.Bool.{Bool, true, false, cond, not}
-use mathlib.Core.List.{List, [], ◌∷◌, map}
-use native.Mathlib.Nat.{add-zero}
-use lib.IntN.{ℤ, pos, +ℤ_idr}
+-- What one call adds: an accepted one all its numbers, a refused one a count.
+use Rattle.std.proofs.Common.{ℕ, ◌+◌, ◌≡◌, refl, Bool, true, false, cond, not, List, [], ◌∷◌, map, add-zero, ℤ, pos}
+use lib.IntN.{+ℤ_idr}
 use Rattle.lists.specs.Lists.{one_if, total_z}
 use Rattle.lists.specs.Parts.{total}
 use Rattle.mr74.specs.Frame.{Trace}

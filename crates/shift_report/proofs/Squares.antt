@@ -1,12 +1,5 @@
--- Squares of 16-bit numbers: how large they are. Assumes nothing.
-use Prim.Native.Nat.{ℕ, suc, ◌*◌, ◌^◌, ◌≤◌}
-use mathlib.Core.List.{List, [], ◌∷◌}
-use native.Mathlib.Nat.{mul-le-mul}
-use native.Mathlib.Omega.{arith}
-use lib.IntN.{ℤ}
-use lib.ListN.{length}
-use mir.Syntax.{w16}
-use mir.Val.{SFits}
+-- Squares of 16-bit numbers: how large they are.
+use Rattle.std.proofs.Common.{ℕ, suc, ◌*◌, ◌^◌, ◌≤◌, List, [], ◌∷◌, mul-le-mul, arith, ℤ, length, w16, SFits}
 use lib.Signed.{nat_abs-le}
 use Rattle.lists.specs.Lists.{at}
 use Rattle.shift_report.specs.Totals.{square, square_sum}

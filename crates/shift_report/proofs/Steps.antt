@@ -1,12 +1,5 @@
--- The steps of any input come to the whole report: a step adds its sheet to the sums, and leaves the sheets after it. Assumes nothing.
-use Prim.Native.Nat.{ℕ, zero, suc, ◌<◌, ◌≤◌}
-use mathlib.Core.Path.{◌≡◌, refl, sym, ap, ◌∙◌}
-use mathlib.Core.Bool.{Bool, true, false, cond, true≢false}
-use mathlib.Core.List.{List, [], ◌∷◌, ◌++◌, append-nil}
-use native.Mathlib.Omega.{arith}
-use borrow.Author.Tests.{eq-eqb, ne_eqb, ltb-true, ltb-false}
-use lib.Dec.{ltb}
-use lib.ListN.{length, take, drop, length-take, length-drop}
+-- The steps of any input come to the whole report: a step adds its sheet to the sums, and leaves the sheets after it.
+use Rattle.std.proofs.Common.{ℕ, zero, suc, ◌<◌, ◌≤◌, ◌≡◌, refl, sym, ap, ◌∙◌, Bool, true, false, cond, true≢false, List, [], ◌∷◌, ◌++◌, append-nil, arith, eq-eqb, ne_eqb, ltb-true, ltb-false, ltb, length, take, drop, length-take, length-drop}
 use lib.Seq.{take-nil}
 use Rattle.state.specs.declared.State.{State}
 use Rattle.outcome.specs.Outcome.{number_of, is_accepted}

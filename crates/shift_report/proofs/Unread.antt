@@ -1,13 +1,5 @@
--- What comes after the record and 65,535 sheets does not count. Assumes nothing.
-use Prim.Native.Nat.{ℕ, zero, suc, ◌+◌, ◌*◌, ◌≤◌}
-use mathlib.Core.Path.{◌≡◌, sym, ap, ◌∙◌}
-use mathlib.Core.Bool.{cond}
-use mathlib.Core.List.{List, ◌∷◌}
-use native.Mathlib.Omega.{arith}
-use borrow.Author.Tests.{ltb-true, ltb-false}
-use lib.Dec.{ltb, lit≤}
-use lib.ListN.{length, take, drop, length-take}
-use lib.Seq.{take_all, take-take}
+-- What comes after the record and 65,535 sheets does not count.
+use Rattle.std.proofs.Common.{ℕ, zero, suc, ◌+◌, ◌*◌, ◌≤◌, ◌≡◌, sym, ap, ◌∙◌, cond, List, ◌∷◌, arith, ltb-true, ltb-false, ltb, lit≤, length, take, drop, length-take, take_all, take-take}
 use Rattle.std.proofs.lemmas.List.{drop-take}
 use Rattle.state.specs.declared.State.{State}
 use Rattle.outcome.specs.Outcome.{number_of, is_accepted}

@@ -1,8 +1,5 @@
--- The widths of the totals of a list of calls from a well-formed state, by the count of calls. Assumes nothing.
-use Prim.Native.Nat.{◌≤◌}
-use mathlib.Core.Path.{sym, subst}
-use mathlib.Core.List.{List, [], ◌∷◌}
-use native.Mathlib.Omega.{arith}
+-- The widths of the totals of a list of calls from a well-formed state, by the count of calls.
+use Rattle.std.proofs.Common.{◌≤◌, sym, subst, List, [], ◌∷◌, arith}
 use Rattle.state.specs.declared.State.{State}
 use Rattle.state.specs.State.{SignalFormed}
 use Rattle.calls.specs.Calls.{Call, trace_of, next_state, run_calls, accepted}

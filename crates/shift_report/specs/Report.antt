@@ -1,5 +1,5 @@
 -- The shift report, whole, of the bench program's whole input: document 02, "2/13 The shift report".
-use Rattle.std.specs.Prelude.{◌≡◌, cond, List, [], ◌∷◌, map, ℕ, ◌+◌, ◌*◌, ◌<◌, eqb, ℤ, pos, ◌+ℤ◌, ◌*ℤ◌, length, take, drop, replicate, ◌≤ℤ◌, ◌<ℤ◌}
+use Rattle.std.specs.Prelude.{◌≡◌, if◌then◌else◌, List, [], ◌∷◌, map, ℕ, ◌+◌, ◌*◌, ◌<◌, ◌==◌, ℤ, pos, ◌+ℤ◌, ◌*ℤ◌, length, take, drop, replicate, ◌≤ℤ◌, ◌<ℤ◌, codes}
 use Rattle.std.specs.Int.Signed.{shr_z}
 use Rattle.lists.specs.Lists.{selected}
 use Rattle.state.specs.declared.State.{State}
@@ -20,7 +20,7 @@ sheet_limit = 65535
 
 -- the whole ones among the first k sheets of the bytes after the record: a cut one counts in neither column
 unfoldable pub whole_sheets : ℕ → List ℕ → List (List ℕ)
-whole_sheets k bytes = selected (λ (sheet : List ℕ). eqb (length sheet) sheet_bytes) (take k (sheets_of bytes))
+whole_sheets k bytes = selected (λ (sheet : List ℕ). length sheet == sheet_bytes) (take k (sheets_of bytes))
 
 -- the frame call of a sheet's bytes, with 160 zeros lent
 abbrev pub call_of : List ℕ → Call
@@ -37,11 +37,11 @@ mean_of sum n = shr_z sum n
 
 -- "none"
 abbrev pub none_word : List ℕ
-none_word = 0x6E ∷ 0x6F ∷ 0x6E ∷ 0x65 ∷ []
+none_word = codes "none"
 
 -- the mean, and `none` where there is no number
 unfoldable pub mean_field : ℤ → ℕ → List ℕ
-mean_field sum n = cond (eqb n 0) none_word (integer (mean_of sum n))
+mean_field sum n = if n == 0 then none_word else integer (mean_of sum n)
 
 -- accepted sheets, refused sheets, retried subframes, sum of squares, mean peak of the accepted sheets
 unfoldable pub report_line : Totals → List ℕ
@@ -53,7 +53,9 @@ report_line t =
 unfoldable pub report_output : List ℕ → List ℕ
 report_output input =
     let a = (read_call (take record_bytes input)).answer in
-    cond (is_accepted a.outcome) (report_line (totals_of (sheet_traces sheet_limit a.state (drop record_bytes input)))) (state_line (number_of a.outcome))
+    if is_accepted a.outcome
+    then report_line (totals_of (sheet_traces sheet_limit a.state (drop record_bytes input)))
+    else state_line (number_of a.outcome)
 
 -- ---- theorems: `mean_floor` in proofs/Means.antt, `unread` in proofs/Unread.antt
 -- n times the mean is at most the sum, and n times one more is above it

@@ -1,6 +1,6 @@
 -- The report's steps, one for each sheet that it reads, what they come to together, and the widths of the sums that they carry.
 -- The theorems are `step_totals`, `steps_report` (proofs/Steps.antt) and `totals_bounded`, `totals_within` (proofs/Widths.antt).
-use Rattle.std.specs.Prelude.{◌≡◌, Bool, true, false, cond, List, [], ◌∷◌, ◌++◌, ℕ, zero, suc, ◌+◌, ◌*◌, ◌^◌, ◌<◌, ◌≤◌, eqb, nat_abs, ◌+ℤ◌, length, take, drop}
+use Rattle.std.specs.Prelude.{◌≡◌, Bool, true, false, if◌then◌else◌, List, [], ◌∷◌, ◌++◌, ℕ, zero, suc, ◌+◌, ◌*◌, ◌^◌, ◌<◌, ◌≤◌, ◌==◌, nat_abs, ◌+ℤ◌, length, take, drop}
 use Rattle.state.specs.declared.State.{State}
 use Rattle.state.specs.State.{WellFormed}
 use Rattle.mr74.specs.Frame.{Trace}
@@ -34,7 +34,7 @@ totals_step totals next more = record { totals = totals; next = next; more = mor
 unfoldable pub step_of : Totals → State → List ℕ → TotalsStep
 step_of sums s bytes =
     let t = trace_of s (call_of bytes) in
-    cond (eqb (length bytes) sheet_bytes) (totals_step (plus sums (totals_of (t ∷ []))) t.next true) (totals_step sums s false)
+    if length bytes == sheet_bytes then totals_step (plus sums (totals_of (t ∷ []))) t.next true else totals_step sums s false
 
 -- what at most k rounds of the program's loop come to: each reads as many bytes as a sheet has, or what is left of the input, and takes a step on
 -- them; the loop ends where a step says so
@@ -42,13 +42,13 @@ unfoldable pub loop_totals : ℕ → Totals → State → List ℕ → Totals
 loop_totals zero sums s input = sums
 loop_totals (suc k) sums s input =
     let r = step_of sums s (take sheet_bytes input) in
-    cond r.more (loop_totals k r.totals r.next (drop sheet_bytes input)) r.totals
+    if r.more then loop_totals k r.totals r.next (drop sheet_bytes input) else r.totals
 
 -- what the program prints: the first step, and the line of what the loop comes to, from nothing
 unfoldable pub program_report : List ℕ → List ℕ
 program_report input =
     let r = opening_step (take record_bytes input) in
-    r.line ++ cond r.more (report_line (loop_totals sheet_limit (totals_of []) r.next (drop record_bytes input))) []
+    r.line ++ (if r.more then report_line (loop_totals sheet_limit (totals_of []) r.next (drop record_bytes input)) else [])
 
 -- sums that are the totals of a list, and one more sheet, give the totals of the longer list
 abbrev pub StepTotals : Type 0

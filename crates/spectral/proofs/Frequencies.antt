@@ -1,7 +1,6 @@
--- That LSFs lie in their range has one proof at most, as a fact of a type needs. Assumes nothing.
+-- That LSFs lie in their range has one proof at most, as a fact of a type needs.
 use mathlib.Core.HLevel.{×_prop, Unit-prop}
-use mathlib.Core.List.{List, [], ◌∷◌}
-use lib.IntN.{ℤ}
+use Rattle.std.proofs.Common.{List, [], ◌∷◌, ℤ}
 use denote.Struct.Props.{props}
 use Rattle.spectral.specs.Lsp.{Frequencies}
 

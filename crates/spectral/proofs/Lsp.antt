@@ -1,9 +1,5 @@
--- Lsf_lsp of a frequency that is not negative, in ℕ, and at its upper end. Assumes nothing.
-use mathlib.Core.Path.{◌≡◌, refl}
-use Prim.Native.Nat.{ℕ, ◌+◌, ◌/◌, ◌%◌}
-use lib.IntN.{ℤ, pos, negsuc}
-use mir.Syntax.{w16}
-use mir.Val.{SFits}
+-- Lsf_lsp of a frequency that is not negative, in ℕ, and at its upper end.
+use Rattle.std.proofs.Common.{◌≡◌, refl, ℕ, ◌+◌, ◌/◌, ◌%◌, ℤ, pos, negsuc, w16, SFits}
 use Rattle.lists.specs.Lists.{at}
 use Rattle.basicop.specs.Ops.{asr, clamp, wrap, add, sub, l_mult}
 use Rattle.basicop.proofs.Fits.{add_fits}

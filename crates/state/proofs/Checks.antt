@@ -1,15 +1,7 @@
--- What a state has shown that its checks accept. Assumes nothing.
-use mathlib.Core.Path.{◌≡◌, refl}
-use mathlib.Core.List.{List, [], ◌∷◌, ◌++◌}
-use Prim.Native.Nat.{ℕ, ◌+◌, ◌≤◌, ◌<◌}
-use native.Mathlib.Omega.{arith}
-use borrow.Author.Tests.{ltb-false, le-ltb}
-use lib.Dec.{ltb}
-use mathlib.Core.Bool.{true, false, ◌||◌}
-use lib.IntN.{ℤ, pos}
-use lib.ListN.{length, take, drop, length-append, length-take}
+-- What a state has shown that its checks accept.
+use Rattle.std.proofs.Common.{◌≡◌, refl, List, [], ◌∷◌, ◌++◌, ℕ, ◌+◌, ◌≤◌, ◌<◌, arith, ltb-false, le-ltb, ltb, true, false, ◌||◌, ℤ, pos, length, take, drop, length-append, length-take, ◌≤ℤ◌}
 use lib.Seq.{get_or_at}
-use lib.Signed.{◌≤ℤ◌, lt_z}
+use lib.Signed.{lt_z}
 use Rattle.std.proofs.lemmas.Bool.{or_parts}
 use Rattle.basicop.proofs.Tests.{less_no, no_less}
 use Rattle.std.specs.Prelude.{Ok}

@@ -1,7 +1,5 @@
--- The gains of a concealment one by one. Assumes nothing.
-use mathlib.Core.List.{List, [], ◌∷◌, ◌++◌}
-use lib.IntN.{ℤ, pos}
-use lib.Signed.{◌≤ℤ◌}
+-- The gains of a concealment one by one.
+use Rattle.std.proofs.Common.{List, [], ◌∷◌, ◌++◌, ℤ, pos, ◌≤ℤ◌}
 use Rattle.lists.specs.Lists.{Every}
 use Rattle.lists.proofs.Entries.{every_append}
 use Rattle.gain_concealment.specs.declared.GainConcealment.{GainConcealment}

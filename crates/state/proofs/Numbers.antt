@@ -1,11 +1,5 @@
--- A state as 213 numbers: they are as many, each of 16 bits, and the state of them is the state; and back. Assumes nothing.
-use mathlib.Core.Path.{◌≡◌, refl, sym, ap, ◌∙◌}
-use mathlib.Core.List.{List, [], ◌∷◌, ◌++◌, append_assoc, append-nil}
-use Prim.Native.Nat.{ℕ}
-use native.Mathlib.Omega.{arith}
-use lib.IntN.{ℤ, pos}
-use lib.ListN.{length, drop}
-use lib.Seq.{drop_at, drop-drop}
+-- A state as 213 numbers: they are as many, each of 16 bits, and the state of them is the state; and back.
+use Rattle.std.proofs.Common.{◌≡◌, refl, sym, ap, ◌∙◌, List, [], ◌∷◌, ◌++◌, append_assoc, append-nil, ℕ, arith, ℤ, pos, length, drop, drop_at, drop-drop}
 use Rattle.lists.specs.Lists.{at}
 use Rattle.lists.proofs.Entries.{at_drop}
 use Rattle.lists.specs.Parts.{joined, total, starts, cut, part_at}

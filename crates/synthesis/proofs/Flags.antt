@@ -1,18 +1,8 @@
--- Numbers outside 32 bits: what a clamp does to them, and whether and where a list has one. Assumes nothing.
+-- Numbers outside 32 bits: what a clamp does to them, and whether and where a list has one.
 use Prim.Native.Nat.compare
-use Prim.Native.Nat.{suc, ◌+◌, ◌≤◌}
-use mathlib.Core.Path.{◌≡◌, refl, sym, ◌∙◌, subst}
-use mathlib.Core.Bool.{Bool, true, false, ◌||◌, cond, or_assoc, or-false}
-use mathlib.Core.List.{List, [], ◌∷◌, ◌++◌}
-use native.Mathlib.Omega.{arith}
-use native.Mathlib.Nat.{zero-add, suc-add}
-use borrow.Author.Tests.{lt-ltb, le-ltb}
-use lib.Dec.{ltb}
-use lib.IntN.{ℤ, pos, negsuc}
-use lib.ListN.{length}
+use Rattle.std.proofs.Common.{suc, ◌+◌, ◌≤◌, ◌≡◌, refl, sym, ◌∙◌, subst, Bool, true, false, ◌||◌, cond, List, [], ◌∷◌, ◌++◌, arith, zero-add, suc-add, lt-ltb, le-ltb, ltb, ℤ, pos, negsuc, length, w32, SFits}
+use mathlib.Core.Bool.{or_assoc, or-false}
 use lib.Signed.{lt_z}
-use mir.Syntax.{w32}
-use mir.Val.{SFits}
 use Rattle.basicop.specs.Ops.{clamp, least, most}
 use Rattle.basicop.proofs.Clamp.{clamp_mid, clamp_fits}
 use Rattle.std.proofs.lemmas.Bool.{or_parts}

@@ -1,10 +1,5 @@
--- Whole numbers of the first pass and the range of 32 bits; a light row's at half their size. Assumes nothing.
-use mathlib.Core.Path.{◌≡◌}
-use native.Mathlib.Omega.{arith}
-use Prim.Native.Nat.{◌≤◌}
-use lib.IntN.{ℤ, pos, nat_abs, ◌-ℤ◌, ◌*ℤ◌}
-use mir.Syntax.{w32}
-use mir.Val.{SFits}
+-- Whole numbers of the first pass and the range of 32 bits; a light row's at half their size.
+use Rattle.std.proofs.Common.{◌≡◌, arith, ◌≤◌, ℤ, pos, nat_abs, ◌-ℤ◌, ◌*ℤ◌, w32, SFits}
 use borrow.Author.Differences.{same_in, product_is}
 use Rattle.basicop.proofs.Ints.{sfits_by, sub_ℤ_is}
 use Rattle.basicop.proofs.Range.{nat_abs_is}

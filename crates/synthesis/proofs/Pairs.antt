@@ -1,12 +1,6 @@
--- The loops and folds over the taps go over the row from its second coefficient on and the ten samples from the newest back, side by side. Assumes nothing.
-use Prim.Native.Nat.{ℕ, suc, ◌+◌, ◌-◌, ◌<◌}
-use mathlib.Core.Path.{◌≡◌, refl, ap, ◌∙◌}
-use mathlib.Core.List.{List, reverse, foldl}
-use native.Mathlib.Omega.{arith}
-use denote.Ref.{Bor}
-use lib.IntN.{ℤ, pos}
-use lib.ListN.{length, take, drop, length-drop, get_or}
-use lib.Seq.{length-take-le, get_or-take}
+-- The loops and folds over the taps go over the row from its second coefficient on and the ten samples from the newest back, side by side.
+use Rattle.std.proofs.Common.{ℕ, suc, ◌+◌, ◌-◌, ◌<◌, ◌≡◌, refl, ap, ◌∙◌, List, reverse, arith, Bor, ℤ, pos, length, take, drop, length-drop, get_or, length-take-le, get_or-take, Iter}
+use mathlib.Core.List.{foldl}
 use Rattle.std.specs.Prelude.{Option, Some, None}
 use Rattle.std.specs.List.{zip}
 use Rattle.std.specs.Iterator.{Yields}
@@ -14,7 +8,6 @@ use Rattle.std.specs.Iterator.Adapters.{zip_first, zip_second, rev_source, rev_s
 use Rattle.std.specs.Slice.Iter.{iter_rest, iter_steps_back}
 use Rattle.std.specs.declared.iter.Zip.{Zip}
 use Rattle.std.specs.declared.iter.Rev.{Rev}
-use Rattle.std.proofs.Common.{Iter}
 use Rattle.std.proofs.iter.Yields.{fronts}
 use Rattle.std.proofs.lemmas.Iterator.{YieldsList, zips, YieldsList-from_slice, YieldsList-from_zip}
 use Rattle.std.proofs.lemmas.Iterator.Adapters.{YieldsList-from_rev_slice}

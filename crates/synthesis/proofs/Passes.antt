@@ -1,15 +1,6 @@
--- The loops over the samples. Assumes nothing.
-use Prim.Native.Nat.{ℕ, suc, ◌+◌, ◌-◌, ◌<◌}
-use mathlib.Core.Path.{◌≡◌, refl, sym, ap, ap₂, ◌∙◌}
-use mathlib.Core.Bool.{true, false}
-use mathlib.Core.List.{List, [], ◌∷◌, ◌++◌}
-use native.Mathlib.Numerals.{add-one}
-use native.Mathlib.Omega.{arith}
-use lib.IntN.{ℤ, pos, ◌+ℤ◌, ◌*ℤ◌}
-use lib.ListN.{length, set, take, drop, replicate, length-set, length-drop, take-append-drop}
-use lib.Seq.{drop-cons, drop-append-le, length-take-le, take-suc, take-suc-set, take_at, drop_at, drop-set-lt, take_all}
-use mir.Syntax.{w32}
-use mir.Val.{SFits}
+-- The loops over the samples.
+use Rattle.std.proofs.Common.{ℕ, suc, ◌+◌, ◌-◌, ◌<◌, ◌≡◌, refl, sym, ap, ap₂, ◌∙◌, true, false, List, [], ◌∷◌, ◌++◌, add-one, arith, ℤ, pos, ◌+ℤ◌, ◌*ℤ◌, length, set, take, drop, replicate, length-set, length-drop, take-append-drop, drop-cons, length-take-le, take-suc, take-suc-set, take_at, drop_at, drop-set-lt, take_all, w32, SFits}
+use lib.Seq.{drop-append-le}
 use Rattle.lists.specs.Lists.{at}
 use Rattle.synthesis.specs.Recursion.{recursion, step_numbers, some_outside, some_list_outside, first_list_outside}
 use Rattle.synthesis.specs.Synthesis.{first_samples, sample, unheld, unhelds, overflowed, overflowed_at}

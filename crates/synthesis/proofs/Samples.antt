@@ -1,16 +1,5 @@
--- Lengths, ranges, and overflow by the place. Assumes nothing.
-use Prim.Native.Nat.{ℕ, zero, suc, ◌+◌, ◌*◌, ◌-◌, ◌≤◌}
-use mathlib.Core.Path.{◌≡◌, refl, sym, ap, ◌∙◌}
-use mathlib.Core.Bool.{false}
-use mathlib.Core.List.{List, append-nil}
-use native.Mathlib.Omega.{arith}
-use borrow.Author.Tests.{ltb-false}
-use lib.Dec.{ltb}
-use lib.IntN.{ℤ}
-use lib.ListN.{length, length-append, length-drop, drop_of_length-le, take, drop, take-append-drop}
-use lib.Seq.{take_all, length-take-le}
-use mir.Syntax.{w16}
-use mir.Val.{SFits}
+-- Lengths, ranges, and overflow by the place.
+use Rattle.std.proofs.Common.{ℕ, zero, suc, ◌+◌, ◌*◌, ◌-◌, ◌≤◌, ◌≡◌, refl, sym, ap, ◌∙◌, false, List, append-nil, arith, ltb-false, ltb, ℤ, length, length-append, length-drop, drop_of_length-le, take, drop, take-append-drop, take_all, length-take-le, w16, SFits}
 use Rattle.std.proofs.lemmas.List.{drop-take}
 use Rattle.lists.specs.Lists.{at}
 use Rattle.basicop.specs.Words.{Words}

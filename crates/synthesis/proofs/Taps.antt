@@ -1,18 +1,9 @@
--- The sums over the taps, before tap k, and the weight of a row. Assumes nothing.
-use Prim.Native.Nat.{ℕ, zero, suc, ◌+◌, ◌*◌, ◌-◌, ◌≤◌, ◌<◌}
-use mathlib.Core.Path.{◌≡◌, sym, ap, ◌∙◌}
-use mathlib.Core.Bool.{false}
-use mathlib.Core.List.{List}
+-- The sums over the taps, before tap k, and the weight of a row.
+use Rattle.std.proofs.Common.{ℕ, zero, suc, ◌+◌, ◌*◌, ◌-◌, ◌≤◌, ◌<◌, ◌≡◌, sym, ap, ◌∙◌, false, List, length, zero-add, suc-add, arith, ℤ, pos, nat_abs, ◌-ℤ◌, ◌*ℤ◌, w16, w32, SFits}
 use lib.Signed.{nat_abs-le}
-use lib.ListN.{length}
 use Rattle.std.specs.List.{sum_by}
 use Rattle.std.proofs.lemmas.List.{get_or_default}
 use Rattle.lists.proofs.Fold.{fold_counted}
-use native.Mathlib.Nat.{zero-add, suc-add}
-use native.Mathlib.Omega.{arith}
-use lib.IntN.{ℤ, pos, nat_abs, ◌-ℤ◌, ◌*ℤ◌}
-use mir.Syntax.{w16, w32}
-use mir.Val.{SFits}
 use Rattle.lists.specs.Lists.{at}
 use Rattle.basicop.specs.Ops.{l_mult}
 use Rattle.basicop.proofs.Fits.{l_mult_fits, l_sub_fits}

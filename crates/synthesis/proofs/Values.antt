@@ -1,9 +1,5 @@
--- The starred values of document 01: zero history, row 4096, -4096, zeros. Assumes nothing.
-use mathlib.Core.Path.{◌≡◌, refl, sym, ◌∙◌}
-use mathlib.Core.Bool.{true, false}
-use mathlib.Core.List.{List, ◌∷◌}
-use lib.IntN.{ℤ, pos}
-use lib.ListN.{replicate}
+-- The starred values of document 01: zero history, row 4096, -4096, zeros.
+use Rattle.std.proofs.Common.{◌≡◌, refl, sym, ◌∙◌, true, false, List, ◌∷◌, ℤ, pos, replicate}
 use Rattle.lists.specs.Lists.{minus}
 use Rattle.basicop.specs.Ops.{clamp, asr, l_mult, l_sub, l_shl, l_add}
 use Rattle.synthesis.specs.Recursion.{outside, recursion, step_numbers, some_outside, some_list_outside, first_list_outside}

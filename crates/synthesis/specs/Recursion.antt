@@ -1,6 +1,6 @@
 -- A recursion that is fed its own samples, and the first of its samples at which a number leaves the range of 32 bits:
 -- what both machines of document 01 are written with (Synthesis.antt: clamped steps; Whole.antt: whole numbers).
-use Rattle.std.specs.Prelude.{ℕ, suc, ◌-◌, Bool, false, ◌||◌, cond, List, [], ◌∷◌, ◌++◌, ℤ, length}
+use Rattle.std.specs.Prelude.{ℕ, suc, ◌-◌, Bool, false, ◌||◌, if◌then◌else◌, List, [], ◌∷◌, ◌++◌, ℤ, length}
 use Rattle.std.specs.Int.Signed.{lt_z}
 use Rattle.std.specs.Int.{w32}
 use Rattle.lists.specs.Lists.{at}
@@ -37,4 +37,4 @@ some_list_outside (zs ∷ zss) = some_outside zs || some_list_outside zss
 -- the place of the first list with a number outside, from 0; the count of the lists where there is none
 unfoldable pub first_list_outside : List (List ℤ) → ℕ
 first_list_outside [] = 0
-first_list_outside (zs ∷ zss) = cond (some_outside zs) 0 (suc (first_list_outside zss))
+first_list_outside (zs ∷ zss) = if some_outside zs then 0 else suc (first_list_outside zss)

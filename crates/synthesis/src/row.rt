@@ -1,5 +1,5 @@
 // A row of the filter, with its weight tested once.
-ghost use Rattle.std.specs.Prelude.{◌≡◌, ltb};
+ghost use Rattle.std.specs.Prelude.{◌≡◌, nat_lt};
 ghost use Rattle.synthesis.specs.Inner.{weight};
 
 // A row, a0 to a10 (Q12). It is light where its weight, |a0| + .. + |a10|, is below 32768: then no number up to a sum can leave 32 bits.
@@ -7,7 +7,7 @@ ghost use Rattle.synthesis.specs.Inner.{weight};
 pub struct Row {
     pub coefficients: [i16; 11],
     pub light: bool,
-    pub ghost weighed: { light ≡ ltb (weight coefficients) 32768 },
+    pub ghost weighed: { light ≡ nat_lt (weight coefficients) 32768 },
 }
 
 impl Row {

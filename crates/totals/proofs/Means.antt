@@ -1,11 +1,7 @@
--- The mean is std's division that rounds down, of the sum by the count, and fits where the sum does. Assumes nothing.
-use mathlib.Core.Path.{◌≡◌, refl}
-use Prim.Native.Nat.{ℕ}
-use native.Mathlib.Omega.{arith}
-use lib.IntN.{ℤ, pos, negsuc}
+-- The mean is std's division that rounds down, of the sum by the count, and fits where the sum does.
+use Rattle.std.proofs.Common.{◌≡◌, refl, ℕ, arith, ℤ, pos, negsuc, SFits}
 use lib.Signed.{mag_shr}
 use mir.Syntax.{Width}
-use mir.Val.{SFits}
 use Rattle.std.specs.Int.{int_div_euclid}
 use Rattle.shift_report.specs.Report.{mean_of}
 

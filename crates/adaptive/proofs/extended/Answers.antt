@@ -1,14 +1,5 @@
 -- `adaptive::extended` meets its contract: n samples are made, and `plain` is the test of all that stands.
-use mathlib.Core.Path.{refl, sym, ap, ◌∙◌}
-use Prim.Native.Nat.{◌+◌, ◌/◌}
-use borrow.Author.Rules.{rules}
-use native.Mathlib.Omega.{arith}
-use lib.IntN.{pos, ◌-ℤ◌}
-use mathlib.Core.List.{[]}
-use lib.ListN.{take, get_or}
-use lib.Seq.{take_at}
-use mathlib.Core.Path.{◌≡◌}
-use mir.Syntax.{w16}
+use Rattle.std.proofs.Common.{refl, sym, ap, ◌∙◌, ◌+◌, ◌/◌, rules, arith, pos, ◌-ℤ◌, [], take, get_or, take_at, ◌≡◌, w16}
 use Rattle.lists.proofs.Signed.{got}
 use Rattle.lists.proofs.Grow.{grown_none, grown_more, grown_done}
 use Rattle.pitch.specs.Lag.{lag_of}

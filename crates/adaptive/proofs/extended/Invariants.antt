@@ -1,6 +1,5 @@
 -- `adaptive::extended` meets its contract: n samples are made, and `plain` is the test of all that stands.
-use Prim.Native.Nat.{◌+◌, ◌-◌, ◌≤◌}
-use lib.IntN.{pos}
+use Rattle.std.proofs.Common.{◌+◌, ◌-◌, ◌≤◌, pos}
 use Rattle.pitch.specs.Lag.{lag_of}
 use Rattle.lists.proofs.Grow.{Grown}
 use Rattle.adaptive.specs.Predict.{phase, sample_at}

@@ -1,11 +1,6 @@
 -- `adaptive::large` meets its contract: the range's two tests are the definition's.
-use mathlib.Core.Path.{◌≡◌, refl, ap, ap₂, ◌∙◌}
-use mathlib.Core.Bool.{Bool, true, false, cond, not, ◌&&◌, ◌||◌}
-use Prim.Native.Nat.{◌-◌}
-use lib.IntN.{ℤ, pos}
-use lib.Signed.{◌<ℤ◌, lt_z}
-use mir.Facts.{to_z-of_z}
-use Rattle.std.proofs.Common.{is_le, Less, Equal, Greater}
+use Rattle.std.proofs.Common.{◌≡◌, refl, ap, ap₂, ◌∙◌, Bool, true, false, cond, not, ◌&&◌, ◌||◌, ◌-◌, ℤ, pos, ◌<ℤ◌, to_z-of_z, is_le, Less, Equal, Greater}
+use lib.Signed.{lt_z}
 use Rattle.lists.specs.Lists.{minus}
 use Rattle.basicop.proofs.Ints.{arith_ℤ}
 use Rattle.basicop.proofs.Tests.{less_yes}

@@ -1,7 +1,5 @@
 -- `adaptive::predict` meets its contract: what comes after the history.
-use mathlib.Core.Path.{ap, ◌∙◌}
-use borrow.Author.Rules.{rules}
-use lib.ListN.{drop}
+use Rattle.std.proofs.Common.{ap, ◌∙◌, rules, drop}
 use Rattle.lists.proofs.Entries.{stretch_end}
 use Rattle.adaptive.specs.Predict.{predicted}
 use Rattle.adaptive.proofs.predict.Goals as goal

@@ -1,6 +1,5 @@
 -- `adaptive::quiet` meets its contract: a fold of the tests of the numbers.
-use mathlib.Core.Bool.{true, not, ◌&&◌}
-use borrow.Author.Rules.{rules}
+use Rattle.std.proofs.Common.{true, not, ◌&&◌, rules}
 use Rattle.std.proofs.lemmas.Iterator.{YieldsList-from_slice}
 use Rattle.std.proofs.lemmas.Iterator.Consumers.{fold_from_yields_List}
 use Rattle.adaptive.specs.Inner.{large, quiet}

@@ -1,9 +1,5 @@
 -- `adaptive::sample` meets its contract: after i turns the sum is that of i turns, and by its size no step clamps where `plain` says so.
-use mathlib.Core.Path.{◌≡◌, refl, ap, ◌∙◌}
-use Prim.Native.Nat.{◌-◌}
-use borrow.Author.Rules.{rules}
-use mir.Syntax.{w16, w32}
-use mir.Val.{to_z, of_z}
+use Rattle.std.proofs.Common.{◌≡◌, refl, ap, ◌∙◌, ◌-◌, rules, w16, w32, to_z, of_z}
 use Rattle.lists.specs.Lists.{at}
 use Rattle.lists.proofs.Signed.{back, got}
 use Rattle.lists.proofs.Count.{iter_done}

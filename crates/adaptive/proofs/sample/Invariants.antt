@@ -1,5 +1,5 @@
 -- `adaptive::sample` meets its contract: after i turns the sum is that of i turns, and by its size no step clamps where `plain` says so.
-use Prim.Native.Nat.{◌≤◌, ◌-◌}
+use Rattle.std.proofs.Common.{◌≤◌, ◌-◌}
 use Rattle.adaptive.specs.Inner.{left_of, right_of}
 use Rattle.adaptive.proofs.Sums.{Summed}
 use Rattle.adaptive.proofs.sample.Given as goal

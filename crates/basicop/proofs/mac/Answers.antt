@@ -1,8 +1,5 @@
 -- `basicop::mac` meets its contract: a plain product and sum are those of L_mac where no step of it clamps.
-use lib.IntN.{◌*ℤ◌}
-use mir.Syntax.{w32}
-use mir.Val.{SFits}
-use mir.Facts.{to_z-of_z}
+use Rattle.std.proofs.Common.{◌*ℤ◌, w32, SFits, to_z-of_z}
 use Rattle.basicop.proofs.Calls.{rules_ℤ}
 use Rattle.basicop.proofs.Unclamped.{unclamped_is}
 use Rattle.basicop.proofs.mac.Goals as goal

@@ -1,7 +1,5 @@
 -- `basicop::quarter` meets its contract: what is quartered, and what is left, quartered, is all, quartered.
-use mathlib.Core.Path.{◌≡◌}
-use mathlib.Core.List.{◌++◌}
-use lib.ListN.{take, drop}
+use Rattle.std.proofs.Common.{◌≡◌, ◌++◌, take, drop}
 use Rattle.basicop.specs.Ops.{quartered}
 use Rattle.basicop.proofs.quarter.Given as goal
 

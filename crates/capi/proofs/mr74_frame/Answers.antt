@@ -1,6 +1,5 @@
 -- `capi::mr74_frame`: what does not fit is left; else each part is read, called and written as its function says.
-use borrow.Author.Rules.{rules}
-use mathlib.Core.Path.{ap, ◌∙◌}
+use Rattle.std.proofs.Common.{rules, ap, ◌∙◌}
 use Rattle.lists.proofs.Signed.{entry_fits}
 use Rattle.decoder.proofs.Results.{Held}
 use Rattle.state.proofs.Checks.{taken_fields}

@@ -1,5 +1,5 @@
 -- `capi::mr74_read` meets its contract: what does not fit is left; else the reader's state and note are given, and the place is low enough for the code.
-use mathlib.Core.Path.{ap}
+use Rattle.std.proofs.Common.{ap}
 use Rattle.record.specs.Record.{ReadResult}
 use Rattle.capi.proofs.Codes.{read_place}
 use Rattle.capi.proofs.Calls.{read_unfit, read_given}

@@ -1,5 +1,5 @@
 -- `capi::mr74_write` meets its contract: a state of another length leaves the bytes; else it is read and its record written, and the place is low enough for the code.
-use mathlib.Core.Path.{ap, ◌∙◌}
+use Rattle.std.proofs.Common.{ap, ◌∙◌}
 use Rattle.record.specs.Record.{WriteResult}
 use Rattle.state.proofs.Checks.{taken_fields}
 use Rattle.capi.specs.Capi.{state_in}

@@ -1,7 +1,5 @@
 -- `coding::core_in`: the parts that are split off are those that the numbers are cut into.
-use mathlib.Core.Path.{ap, ◌∙◌}
-use native.Mathlib.Omega.{arith}
-use borrow.Author.Rules.{rules}
+use Rattle.std.proofs.Common.{ap, ◌∙◌, arith, rules}
 use Rattle.state.specs.Layout.{core_from, core_of}
 use Rattle.coding.proofs.Words.{next_part, last_part, one_in}
 use Rattle.coding.proofs.core_in.Goals as goal

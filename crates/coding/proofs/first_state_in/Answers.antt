@@ -1,5 +1,5 @@
 -- `coding::first_state_in`: the concealment is that of the missing numbers.
-use mathlib.Core.Path.{refl}
+use Rattle.std.proofs.Common.{refl}
 use Rattle.state.specs.Layout.{concealment_of}
 use Rattle.coding.specs.Body.{missing}
 use Rattle.coding.proofs.first_state_in.Goals as goal

@@ -1,7 +1,5 @@
 -- `coding::post_in`: the parts that are split off are those that the numbers are cut into.
-use mathlib.Core.Path.{ap, ◌∙◌}
-use borrow.Author.Rules.{rules}
-use native.Mathlib.Omega.{arith}
+use Rattle.std.proofs.Common.{ap, ◌∙◌, rules, arith}
 use Rattle.state.specs.Layout.{post_from, post_of}
 use Rattle.coding.proofs.Words.{next_part, last_part, one_in}
 use Rattle.coding.proofs.post_in.Goals as goal

@@ -1,9 +1,5 @@
 -- `coding::state_in`: the signal's bytes are split off, and the concealment is of the rest.
-use mathlib.Core.Path.{ap, ap₂, sym, ◌∙◌}
-use mathlib.Core.List.{List, ◌++◌}
-use Prim.Native.Nat.{ℕ}
-use native.Mathlib.Omega.{arith}
-use lib.ListN.{length}
+use Rattle.std.proofs.Common.{ap, ap₂, sym, ◌∙◌, List, ◌++◌, ℕ, arith, length}
 use Rattle.state.specs.Layout.{state_of}
 use Rattle.coding.specs.Bytes.{words}
 use Rattle.coding.proofs.Words.{words_append, words_length}

@@ -1,8 +1,5 @@
 -- `coding::state_with`: core and postfilter are split off, and the concealment's numbers stand behind theirs.
-use mathlib.Core.Path.{ap, ap₂, ◌∙◌}
-use mathlib.Core.List.{List}
-use Prim.Native.Nat.{ℕ}
-use native.Mathlib.Omega.{arith}
+use Rattle.std.proofs.Common.{ap, ap₂, ◌∙◌, List, ℕ, arith}
 use Rattle.state.specs.Layout.{core_of, post_of, concealment_of, state_from, state_of}
 use Rattle.state.specs.declared.State.{State}
 use Rattle.coding.specs.Bytes.{words}

@@ -1,5 +1,5 @@
 -- `coding::write_post`: the bytes of each part, one after another.
-use borrow.Author.Rules.{rules}
+use Rattle.std.proofs.Common.{rules}
 use Rattle.state.specs.Layout.{post_numbers}
 use Rattle.coding.proofs.Bytes.{one_put}
 use Rattle.coding.proofs.Laid.{next_bytes, last_bytes}

@@ -1,8 +1,5 @@
 -- `padded` meets its contract: what follows the numbers was 0 before they were copied.
-use lib.IntN.{pos}
-use lib.ListN.{length}
-use mathlib.Core.Path.{ap₂}
-use mathlib.Core.List.{◌++◌}
+use Rattle.std.proofs.Common.{pos, length, ap₂, ◌++◌}
 use Rattle.std.proofs.lemmas.List.{drop-replicate}
 use Rattle.copy.proofs.padded.Goals as goal
 

@@ -1,10 +1,5 @@
--- agc2 and agc by the test of the output's energy. Assumes nothing.
-use mathlib.Core.Path.{◌≡◌}
-use mathlib.Core.List.{List, map}
-use Prim.Native.Nat.{ℕ, suc}
-use lib.IntN.{ℤ, pos}
-use lib.ListN.{length}
-use lib.Signed.{◌<ℤ◌}
+-- agc2 and agc by the test of the output's energy.
+use Rattle.std.proofs.Common.{◌≡◌, List, map, ℕ, suc, ℤ, pos, length, ◌<ℤ◌}
 use Rattle.lists.specs.Lists.{at, tab}
 use Rattle.energy.specs.Energy.{energy}
 use Rattle.energy.specs.Gain.{energy_gain, scaled_by, target, smoothed, controlled, agc2, agc}

@@ -1,14 +1,6 @@
--- Inv_sqrt of a positive number: the index stays in the table, no step clamps, and the result is in range. Assumes nothing.
-use mathlib.Core.Path.{◌≡◌, refl, sym, ◌∙◌}
-use mathlib.Core.Bool.{Bool, true, false}
-use Prim.Native.Nat.{ℕ, ◌+◌, ◌-◌, ◌/◌, ◌^◌, ◌<◌, ◌≤◌}
-use native.Mathlib.Nat.{div-lt_iff_lt-mul, le-div_iff_mul-le}
-use native.Mathlib.Omega.{arith}
-use lib.Pow.{pow_mono, pow_pos}
-use lib.IntN.{ℤ, pos, negsuc, ◌+ℤ◌, ◌-ℤ◌}
-use lib.Signed.{◌≤ℤ◌, ◌<ℤ◌, le_z, le_z_yes}
-use mir.Syntax.{w32}
-use mir.Val.{SFits}
+-- Inv_sqrt of a positive number: the index stays in the table, no step clamps, and the result is in range.
+use Rattle.std.proofs.Common.{◌≡◌, refl, sym, ◌∙◌, Bool, true, false, ℕ, ◌+◌, ◌-◌, ◌/◌, ◌^◌, ◌<◌, ◌≤◌, div-lt_iff_lt-mul, le-div_iff_mul-le, arith, pow_mono, pow_pos, ℤ, pos, negsuc, ◌+ℤ◌, ◌-ℤ◌, ◌≤ℤ◌, ◌<ℤ◌, w32, SFits}
+use lib.Signed.{le_z, le_z_yes}
 use Rattle.basicop.specs.Ops.{asr, sub, l_shr}
 use Rattle.basicop.proofs.Ints.{arith_ℤ, le_in, ≤ℤ_trans}
 use Rattle.basicop.proofs.Naturals.{minus, asr_pos}

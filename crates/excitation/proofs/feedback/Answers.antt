@@ -1,5 +1,5 @@
 -- `excitation::feedback` meets its contract: each sample is the prediction's and the innovation's by their gains.
-use borrow.Author.Rules.{rules}
+use Rattle.std.proofs.Common.{rules}
 use Rattle.lists.proofs.Made.{made_pairwise}
 use Rattle.excitation.specs.Excitation.{feedback_at, feedback}
 use Rattle.excitation.proofs.feedback.Goals as goal

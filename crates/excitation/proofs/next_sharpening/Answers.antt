@@ -1,9 +1,5 @@
 -- `excitation::next_sharpening` meets its contract: the difference from 13017, clamped, is above 0 just where the gain is above 13017.
-use borrow.Author.Rules.{rules}
-use lib.IntN.{pos}
-use mir.Syntax.{w16}
-use mir.Val.{SFits}
-use mir.Facts.{to_z-of_z}
+use Rattle.std.proofs.Common.{rules, pos, w16, SFits, to_z-of_z}
 use Rattle.basicop.specs.Ops.{sub}
 use Rattle.basicop.proofs.Clamp.{clamp_above}
 use Rattle.excitation.specs.Excitation.{sharpening}

@@ -1,10 +1,5 @@
 -- `excitation::sharpen` meets its contract: the samples so far are sharpened, those from here on as they came.
-use mathlib.Core.Path.{ap, ◌∙◌}
-use Prim.Native.Nat.{◌-◌}
-use borrow.Author.Rules.{rules}
-use mathlib.Core.List.{[]}
-use lib.IntN.{ℤ, pos}
-use mir.Syntax.{w16}
+use Rattle.std.proofs.Common.{ap, ◌∙◌, ◌-◌, rules, [], ℤ, pos, w16}
 use Rattle.lists.specs.Lists.{at, iter, grow}
 use Rattle.lists.proofs.Signed.{back, got}
 use Rattle.excitation.specs.Excitation.{sharpened_at, sharpened}

@@ -1,5 +1,5 @@
 -- `excitation::sharpen` meets its contract: the samples so far are sharpened, those from here on as they came.
-use Prim.Native.Nat.{◌≤◌}
+use Rattle.std.proofs.Common.{◌≤◌}
 use Rattle.excitation.proofs.Sharpening.{Sharper}
 use Rattle.excitation.proofs.sharpen.Given as goal
 

@@ -1,7 +1,5 @@
 -- `excitation::take_in` meets its contract: the past from its number 40 on, and the subframe.
-use borrow.Author.Rules.{rules}
-use mathlib.Core.Path.{ap, ◌∙◌}
-use mathlib.Core.List.{◌++◌}
+use Rattle.std.proofs.Common.{rules, ap, ◌∙◌, ◌++◌}
 use Rattle.lists.proofs.Entries.{stretch_end}
 use Rattle.excitation.proofs.take_in.Goals as goal
 

@@ -1,9 +1,5 @@
 -- `log2` meets its contract: each step is the definition's, and the position that a number above 0 is normalised to lies in the table.
-use mathlib.Core.Path.{◌≡◌}
-use lib.IntN.{pos}
-use mir.Syntax.{w16, w32}
-use mir.Val.{to_z, of_z}
-use mir.Facts.{to_z-of_z}
+use Rattle.std.proofs.Common.{◌≡◌, pos, w16, w32, to_z, of_z, to_z-of_z}
 use Rattle.lists.proofs.Signed.{back, got}
 use Rattle.basicop.specs.Ops.{norm_l}
 use Rattle.basicop.proofs.Tests.{at_most_no}

@@ -1,7 +1,5 @@
 -- `pow2` meets its contract: each step is the definition's, and the position of a fraction that is not negative lies in the table.
-use mathlib.Core.Path.{◌≡◌, ◌∙◌}
-use mir.Syntax.{w16, w32}
-use mir.Facts.{to_z-of_z}
+use Rattle.std.proofs.Common.{◌≡◌, ◌∙◌, w16, w32, to_z-of_z}
 use Rattle.lists.proofs.Signed.{back, got}
 use Rattle.basicop.proofs.Ints.{arith_ℤ}
 use Rattle.basicop.proofs.Tables.{has_next}

@@ -1,7 +1,5 @@
 -- `convert` meets its contract: each polynomial of degree 5 fills its six coefficients, and the row is made of the two.
-use borrow.Author.Rules.{rules}
-use mathlib.Core.Path.{sym, ap₂, ◌∙◌}
-use lib.Seq.{take_all}
+use Rattle.std.proofs.Common.{rules, sym, ap₂, ◌∙◌, take_all}
 use Rattle.lpc.specs.Rows.{row, row_of}
 use Rattle.lpc.proofs.convert.Goals as goal
 

@@ -1,7 +1,5 @@
 -- `every_second` meets its contract: entry k is the LSP at o + 2 k.
-use Prim.Native.Nat.{◌+◌, ◌*◌}
-use borrow.Author.Rules.{rules}
-use mathlib.Core.Path.{◌≡◌, refl, ◌∙◌}
+use Rattle.std.proofs.Common.{◌+◌, ◌*◌, rules, ◌≡◌, refl, ◌∙◌}
 use Rattle.lists.specs.Lists.{at}
 use Rattle.lists.proofs.Made.{made}
 use Rattle.lpc.specs.Rows.{every_second}

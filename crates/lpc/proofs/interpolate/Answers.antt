@@ -1,5 +1,5 @@
 -- `lpc::interpolate` meets its contract: the calls are the definition's, for three blends and the new LSPs.
-use borrow.Author.Rules.{rules}
+use Rattle.std.proofs.Common.{rules}
 use Rattle.lists.proofs.Made.{made_pairwise}
 use Rattle.lpc.specs.Rows.{blend0, blend1, blend2, rows_of}
 use Rattle.lpc.proofs.interpolate.Goals as goal

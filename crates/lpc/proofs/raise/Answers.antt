@@ -1,11 +1,5 @@
 -- `raise` meets its contract: coefficients 0 and 1 first, then its loop fills the rest.
-use Prim.Native.Nat.{◌+◌, ◌-◌}
-use borrow.Author.Rules.{rules}
-use mathlib.Core.Path.{◌∙◌}
-use lib.ListN.{set}
-use mir.Syntax.{w16, w32}
-use mir.Val.{SFits, to_z, of_z}
-use mir.Facts.{to_z-of_z}
+use Rattle.std.proofs.Common.{◌+◌, ◌-◌, rules, ◌∙◌, set, w16, w32, SFits, to_z, of_z, to_z-of_z}
 use Rattle.lists.specs.Lists.{at}
 use Rattle.lists.proofs.Signed.{back, got}
 use Rattle.lists.proofs.Entries.{length_tab}

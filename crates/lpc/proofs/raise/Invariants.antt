@@ -1,5 +1,5 @@
 -- `raise` meets its contract: coefficients 0 and 1 first, then its loop fills the rest.
-use Prim.Native.Nat.{◌+◌, ◌-◌, ◌≤◌}
+use Rattle.std.proofs.Common.{◌+◌, ◌-◌, ◌≤◌}
 use Rattle.lists.proofs.Fill.{Filled}
 use Rattle.lpc.proofs.Polynomials.{step}
 use Rattle.lpc.proofs.raise.Given as goal

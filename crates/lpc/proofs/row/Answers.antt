@@ -1,8 +1,5 @@
 -- `row` meets its contract: after k turns coefficients 0 to k and the last k are those of the row.
-use Prim.Native.Nat.{◌+◌, ◌-◌}
-use borrow.Author.Rules.{rules}
-use mathlib.Core.Path.{◌≡◌, refl, ap, ap₂, ◌∙◌}
-use mir.Syntax.{w16, w32}
+use Rattle.std.proofs.Common.{◌+◌, ◌-◌, rules, ◌≡◌, refl, ap, ap₂, ◌∙◌, w16, w32}
 use Rattle.lists.proofs.Signed.{back, got}
 use Rattle.lists.proofs.Fill.{fill_none, fill_keep}
 use Rattle.basicop.specs.Ops.{l_add, l_sub}

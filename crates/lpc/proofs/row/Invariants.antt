@@ -1,5 +1,5 @@
 -- `row` meets its contract: after k turns coefficients 0 to k and the last k are those of the row.
-use Prim.Native.Nat.{◌+◌, ◌-◌, ◌≤◌}
+use Rattle.std.proofs.Common.{◌+◌, ◌-◌, ◌≤◌}
 use Rattle.lpc.specs.Rows.{row}
 use Rattle.lists.proofs.Ends.{Ends}
 use Rattle.lpc.proofs.row.Given as goal

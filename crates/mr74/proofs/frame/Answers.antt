@@ -1,10 +1,5 @@
 -- The checks, then the frame or the refusal: answer_accepted, answer_refused.
-use native.Mathlib.Omega.{arith}
-use mathlib.Core.List.{List}
-use mathlib.Core.Path.{◌≡◌, ap, ◌∙◌}
-use borrow.Author.Rules.{rules}
-use lib.IntN.{ℤ}
-use lib.ListN.{length}
+use Rattle.std.proofs.Common.{arith, List, ◌≡◌, ap, ◌∙◌, rules, ℤ, length}
 use Rattle.outcome.specs.Outcome.{is_accepted}
 use Rattle.mr74.specs.Sheet.{frame_prepared}
 use Rattle.mr74.proofs.Passed.{passed}

@@ -1,7 +1,5 @@
 -- `first_close` meets its contract: the position that the library finds is the place of the definition.
-use Rattle.std.proofs.Common.{rules, tests}
-use mathlib.Core.Path.{◌∙◌}
-use lib.IntN.{pos}
+use Rattle.std.proofs.Common.{rules, tests, ◌∙◌, pos}
 use Rattle.std.specs.Prelude.{Some}
 use Rattle.std.proofs.lemmas.Iterator.{YieldsList-from_slice, YieldsList-from_zip}
 use Rattle.std.proofs.lemmas.Iterator.Adapters.{YieldsList-from_once}

@@ -1,6 +1,5 @@
 -- `first_outside` meets its contract: the position that the library finds is the place of the definition.
-use Rattle.std.proofs.Common.{rules, tests}
-use mathlib.Core.Path.{◌∙◌}
+use Rattle.std.proofs.Common.{rules, tests, ◌∙◌}
 use Rattle.std.proofs.lemmas.Iterator.{YieldsList-from_slice, YieldsList-from_zip}
 use Rattle.std.proofs.lemmas.Iterator.Search.{position_from_yields_List}
 use Rattle.outcome.proofs.Ranges.{outside, position_found}

@@ -1,7 +1,5 @@
 -- `postfilter::excitation` meets its contract: preemphasis of the residual, whose last is kept.
-use mathlib.Core.Path.{◌∙◌}
-use mir.Syntax.{w16}
-use mir.Facts.{to_z-of_z}
+use Rattle.std.proofs.Common.{◌∙◌, w16, to_z-of_z}
 use Rattle.lists.specs.Lists.{at}
 use Rattle.lists.proofs.Signed.{back}
 use Rattle.postfilter.proofs.excitation.Goals as goal

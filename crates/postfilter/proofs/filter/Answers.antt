@@ -1,7 +1,5 @@
 -- `postfilter::filter` meets its contract: the subframe by its steps.
-use mathlib.Core.Path.{◌∙◌}
-use borrow.Author.Rules.{rules}
-use mir.Syntax.{w16}
+use Rattle.std.proofs.Common.{◌∙◌, rules, w16}
 use Rattle.lists.proofs.Signed.{back}
 use Rattle.postfilter.specs.Weight.{numerator, denominator}
 use Rattle.postfilter.proofs.Subframes.{filtered_by}

@@ -1,12 +1,5 @@
 -- `postfilter::preemphasis` meets its contract: the first i are emphasised, and `previous` is the residual before the next.
-use Prim.Native.Nat.{◌<◌}
-use mathlib.Core.Path.{refl, ◌∙◌}
-use lib.ListN.{length}
-use native.Mathlib.Numerals.{add-one}
-use borrow.Author.Rules.{rules}
-use mir.Syntax.{w16}
-use mir.Val.{SFits}
-use mir.Facts.{to_z-of_z}
+use Rattle.std.proofs.Common.{◌<◌, refl, ◌∙◌, length, add-one, rules, w16, SFits, to_z-of_z}
 use Rattle.lists.specs.Lists.{at}
 use Rattle.lists.proofs.Signed.{got}
 use Rattle.lists.proofs.Fill.{fill_none, fill_more, fill_whole, untouched_none, untouched_more, untouched_here}

@@ -1,6 +1,5 @@
 -- `postfilter::preemphasis` meets its contract: the first i are emphasised, and `previous` is the residual before the next.
-use mathlib.Core.Path.{◌≡◌}
-use mathlib.Core.List.{◌∷◌}
+use Rattle.std.proofs.Common.{◌≡◌, ◌∷◌}
 use Rattle.lists.specs.Lists.{at}
 use Rattle.lists.proofs.Fill.{Filled, Untouched}
 use Rattle.postfilter.specs.Preemphasis.{preemphasised}

@@ -1,9 +1,5 @@
 -- `postfilter::process` meets its contract: after k subframes the frame's first samples and the memory are those of k steps.
-use Prim.Native.Nat.{◌<◌}
-use borrow.Author.Rules.{rules}
-use mathlib.Core.Path.{◌≡◌, ap, ◌∙◌}
-use mathlib.Core.List.{[]}
-use lib.ListN.{length}
+use Rattle.std.proofs.Common.{◌<◌, rules, ◌≡◌, ap, ◌∙◌, [], length}
 use Rattle.postfilter.proofs.Frames.{row_listed, framing_none, framing_more, framing_done}
 use Rattle.postfilter.proofs.process.Goals as goal
 

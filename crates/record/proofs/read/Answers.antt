@@ -1,7 +1,5 @@
 -- `read` meets its contract: the state that was read and what stands before it, or the refusal and nothing.
-use mathlib.Core.Path.{refl, sym}
-use native.Mathlib.Omega.{arith}
-use lib.Seq.{length-take-le}
+use Rattle.std.proofs.Common.{refl, sym, arith, length-take-le}
 use Rattle.record.proofs.Reader.{read_accepted, read_refused}
 use Rattle.record.proofs.read.Goals as goal
 

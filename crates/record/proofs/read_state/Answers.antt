@@ -1,5 +1,5 @@
 -- `read_state` meets its contract: the bytes are tested, then the state in them.
-use mathlib.Core.Path.{sym, ◌∙◌}
+use Rattle.std.proofs.Common.{sym, ◌∙◌}
 use Rattle.std.proofs.lemmas.Result.{err_from_is_err_and}
 use Rattle.record.proofs.Reader.{state_decides, bytes_decide}
 use Rattle.record.proofs.read_state.Goals as goal

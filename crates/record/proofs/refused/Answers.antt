@@ -1,5 +1,5 @@
 -- `refused` meets its contract: the numbers of zero bytes are zeros.
-use mathlib.Core.Path.{ap}
+use Rattle.std.proofs.Common.{ap}
 use Rattle.std.specs.Prelude.{Err}
 use Rattle.state.specs.declared.State.{State}
 use Rattle.record.specs.declared.Answer.{Answer}

@@ -1,5 +1,5 @@
 -- `write` meets its contract: the record is written where room and state are accepted.
-use mathlib.Core.Path.{refl, ap, ◌∙◌}
+use Rattle.std.proofs.Common.{refl, ap, ◌∙◌}
 use Rattle.std.specs.Prelude.{Err}
 use Rattle.std.proofs.lemmas.Result.{err_from_is_err_and}
 use Rattle.record.proofs.Writer.{no_room, room_there, write_accepted, write_refused}

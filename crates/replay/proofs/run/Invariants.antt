@@ -1,7 +1,6 @@
 -- `replay::run` keeps every bound: the records counted are no more than the turns, and those that differ no more than they.
-use lib.IntN.{pos}
+use Rattle.std.proofs.Common.{pos, ◌≤◌}
 use Rattle.std.specs.Prelude.{◌≤ℤ◌}
-use Prim.Native.Nat.{◌≤◌}
 use Rattle.replay.proofs.run.Given as goal
 
 abbrev pub invariant-loop : goal.invariant-loop

@@ -1,5 +1,5 @@
 -- `sheets::open_call` meets its contract: an accepted record opens the run, and a refused one is told by its refusal's number.
-use mathlib.Core.Path.{sym, ap, ◌∙◌}
+use Rattle.std.proofs.Common.{sym, ap, ◌∙◌}
 use Rattle.outcome.specs.Outcome.{number_of, is_accepted}
 use Rattle.outcome.proofs.Variants.{never_accepted}
 use Rattle.sheets.proofs.Opening.{opening_accepted, opening_refused}

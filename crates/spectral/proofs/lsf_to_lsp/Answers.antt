@@ -1,5 +1,5 @@
 -- `spectral::lsf_to_lsp` meets its contract: each call gives the LSP of its frequency, which lies in the range that it asks for.
-use borrow.Author.Rules.{rules}
+use Rattle.std.proofs.Common.{rules}
 use Rattle.lists.proofs.Made.{made_map, callable}
 use Rattle.lists.proofs.Entries.{every_get}
 use Rattle.spectral.proofs.lsf_to_lsp.Goals as goal

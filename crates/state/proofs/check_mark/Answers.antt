@@ -1,11 +1,5 @@
 -- `check_mark` meets its contract: the place is that of the search, from field 198 on.
-use mathlib.Core.List.{[]}
-use mathlib.Core.Path.{refl, ◌∙◌}
-use borrow.Author.Rules.{rules}
-use mir.Syntax.{w16}
-use mir.Val.{SFits}
-use mir.Facts.{to_z-of_z}
-use Prim.Native.Nat.{ℕ, ◌+◌}
+use Rattle.std.proofs.Common.{[], refl, ◌∙◌, rules, w16, SFits, to_z-of_z, ℕ, ◌+◌}
 use Rattle.outcome.specs.declared.Refusal.TheVariants.{GainField}
 use Rattle.outcome.proofs.Checks.{place_met, place_unmet, none_left}
 use Rattle.state.proofs.check_mark.Goals as goal

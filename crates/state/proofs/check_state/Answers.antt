@@ -1,6 +1,5 @@
 -- `check_state` meets its contract: group after group, the first that refuses decides.
-use mathlib.Core.List.{◌++◌}
-use mathlib.Core.Path.{◌∙◌}
+use Rattle.std.proofs.Common.{◌++◌, ◌∙◌}
 use Rattle.outcome.proofs.Checks.{refused_here, accepted_here}
 use Rattle.state.specs.State.{signal_checks, mark_checks, lag_checks}
 use Rattle.state.proofs.check_state.Goals as goal

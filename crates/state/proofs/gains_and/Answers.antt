@@ -1,14 +1,5 @@
 -- `gains_and` meets its contract: the fives are lists of five.
-use mathlib.Core.Path.{◌≡◌, ap₂}
-use mathlib.Core.List.{List, [], ◌∷◌, ◌++◌}
-use borrow.Author.Rules.{rules}
-use Prim.Native.Nat.{ℕ}
-use lib.IntN.{ℤ}
-use lib.ListN.{length}
-use mir.Syntax.{w16}
-use mir.Val.{SFits}
-use mir.Facts.{to_z-of_z}
-use Rattle.std.proofs.Common.{rules as common}
+use Rattle.std.proofs.Common.{◌≡◌, ap₂, List, [], ◌∷◌, ◌++◌, rules, ℕ, ℤ, length, w16, SFits, to_z-of_z, rules as common}
 use Rattle.lists.specs.Lists.{at}
 use Rattle.lists.proofs.Signed.{entry_fits}
 use Rattle.state.specs.Layout.{pair_numbers}

@@ -1,5 +1,5 @@
 -- `adaptive::phase_taps` meets its contract: each call gives the tap of its place.
-use borrow.Author.Rules.{rules}
+use Rattle.std.proofs.Common.{rules}
 use Rattle.lists.proofs.Made.{made_tab}
 use Rattle.adaptive.specs.Inner.{tap}
 use Rattle.adaptive.proofs.phases.phase_taps.Goals as goal

@@ -1,5 +1,5 @@
 -- `adaptive::start_of` meets its contract: fraction by fraction, 154 less the lag, and one less for a third more.
-use mathlib.Core.Logic.{⊎_elim}
+use Rattle.std.proofs.Common.{⊎_elim}
 use Rattle.pitch.specs.declared.Fraction.TheVariants.{MinusThird, Zero, PlusThird}
 use Rattle.adaptive.proofs.Places.{start_by}
 use Rattle.adaptive.proofs.phases.start_of.Goals as goal

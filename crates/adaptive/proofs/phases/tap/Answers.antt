@@ -1,8 +1,5 @@
 -- `adaptive::tap` meets its contract: to the left and to the right, the place read in the table is the definition's.
-use mathlib.Core.Path.{◌∙◌}
-use Prim.Native.Nat.{◌+◌, ◌*◌, ◌-◌}
-use native.Mathlib.Omega.{arith}
-use mir.Facts.{to_z-of_z}
+use Rattle.std.proofs.Common.{◌∙◌, ◌+◌, ◌*◌, ◌-◌, arith, to_z-of_z}
 use Rattle.adaptive.specs.Predict.{inter6}
 use Rattle.adaptive.proofs.Table.{inter6_fits}
 use Rattle.adaptive.proofs.Taps.{tap_left, tap_right}

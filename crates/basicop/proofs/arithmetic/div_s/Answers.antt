@@ -1,13 +1,6 @@
 -- `div_s` meets its contract: the quotient of fifteen turns is one division.
-use mathlib.Core.Path.{◌∙◌}
-use Prim.Native.Nat.{◌*◌, ◌<◌}
-use native.Mathlib.Nat.{div-le_self, lt_of_le_of_lt}
-use lib.Dec.{ltb→lt}
-use lib.IntN.{ℤ, pos, negsuc, ◌*ℤ◌}
-use lib.Signed.{◌≤ℤ◌, ◌<ℤ◌, quot_z}
-use mir.Syntax.{w16, w32}
-use mir.Val.{SFits, of_z}
-use mir.Facts.{to_z-of_z}
+use Rattle.std.proofs.Common.{◌∙◌, ◌*◌, ◌<◌, div-le_self, lt_of_le_of_lt, ltb→lt, ℤ, pos, negsuc, ◌*ℤ◌, ◌≤ℤ◌, ◌<ℤ◌, w16, w32, SFits, of_z, to_z-of_z}
+use lib.Signed.{quot_z}
 use Rattle.lists.proofs.Signed.{got}
 use Rattle.basicop.proofs.Calls.{rules_ℤ}
 use Rattle.basicop.proofs.Division.{div_s_is}

@@ -1,5 +1,5 @@
 -- `l_mult` meets its contract: the doubled product fits 64 bits and is clamped once.
-use mir.Syntax.{w32}
+use Rattle.std.proofs.Common.{w32}
 use Rattle.basicop.specs.Ops.{l_mult}
 use Rattle.lists.proofs.Signed.{got}
 use Rattle.basicop.proofs.Calls.{rules_ℤ}

@@ -1,5 +1,5 @@
 -- `mult` meets its contract: the product fits 32 bits, is shifted and clamped once.
-use mir.Syntax.{w16}
+use Rattle.std.proofs.Common.{w16}
 use Rattle.basicop.specs.Ops.{mult, asr}
 use Rattle.lists.proofs.Signed.{got}
 use Rattle.basicop.proofs.Calls.{rules_ℤ}

@@ -1,7 +1,5 @@
 -- `extract_l` meets its contract: the residue, read as signed.
-use mathlib.Core.Path.{◌∙◌}
-use mir.Syntax.{w16, w32}
-use mir.Facts.{to_z-of_z}
+use Rattle.std.proofs.Common.{◌∙◌, w16, w32, to_z-of_z}
 use Rattle.lists.proofs.Signed.{got}
 use Rattle.basicop.proofs.Wrap.{wrap_read}
 use Rattle.basicop.proofs.extraction.extract_l.Goals as goal

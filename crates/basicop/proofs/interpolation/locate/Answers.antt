@@ -1,7 +1,5 @@
 -- `locate` meets its contract: the halves of L_Extract are the high word and the low 15 bits of x >> 1.
-use borrow.Author.Rules.{rules}
-use mir.Syntax.{w16}
-use mir.Facts.{to_z-of_z}
+use Rattle.std.proofs.Common.{rules, w16, to_z-of_z}
 use Rattle.lists.proofs.Signed.{back, got}
 use Rattle.basicop.proofs.Tables.{halves}
 use Rattle.basicop.proofs.interpolation.locate.Goals as goal

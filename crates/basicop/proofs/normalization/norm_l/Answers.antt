@@ -1,16 +1,8 @@
 -- `norm_l` meets its contract: doublings are counted by leading zeros.
-use mathlib.Core.Path.{◌≡◌, ◌∙◌, sym}
-use mathlib.Core.Bool.{false}
-use Prim.Native.Nat.{◌-◌}
-use native.Mathlib.Omega.{arith}
-use borrow.Author.Tests.{ltb-false}
+use Rattle.std.proofs.Common.{◌≡◌, ◌∙◌, sym, false, ◌-◌, arith, ltb-false, ltb→lt, ℤ, pos, negsuc, nat_abs, ◌<ℤ◌, w16, w32, SFits, to_z, of_z, to_z-of_z}
 use lib.Count.{count_leading_zeros}
-use lib.Dec.{ltb→lt}
-use lib.IntN.{ℤ, pos, negsuc, nat_abs}
-use lib.Signed.{◌<ℤ◌, lt_z}
-use mir.Syntax.{w16, w32}
-use mir.Val.{SFits, to_z, of_z}
-use mir.Facts.{to_z-of_z, to_z_pos}
+use lib.Signed.{lt_z}
+use mir.Facts.{to_z_pos}
 use Rattle.lists.proofs.Signed.{got}
 use Rattle.basicop.specs.Ops.{norm_l}
 use Rattle.basicop.proofs.Tests.{negative, less_yes}

@@ -1,11 +1,6 @@
 -- `l_extract` meets its contract: no step of L_Extract clamps.
-use mathlib.Core.Path.{◌≡◌, sym}
-use native.Mathlib.Omega.{arith}
-use lib.IntN.{pos, ◌-ℤ◌, ◌*ℤ◌}
+use Rattle.std.proofs.Common.{◌≡◌, sym, arith, pos, ◌-ℤ◌, ◌*ℤ◌, w16, w32, to_z, of_z, to_z-of_z}
 use lib.Signed.{shr_z}
-use mir.Syntax.{w16, w32}
-use mir.Val.{to_z, of_z}
-use mir.Facts.{to_z-of_z}
 use Rattle.lists.proofs.Signed.{got}
 use Rattle.basicop.specs.Ops.{asr, mod_z}
 use Rattle.basicop.proofs.Calls.{rules_ℤ}

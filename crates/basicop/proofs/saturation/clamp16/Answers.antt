@@ -1,5 +1,5 @@
 -- `clamp16` meets its contract: the ends of an i16's range are the definition's.
-use mir.Syntax.{w16, w32}
+use Rattle.std.proofs.Common.{w16, w32}
 use Rattle.basicop.proofs.Clamp.{held}
 use Rattle.basicop.proofs.saturation.clamp16.Goals as goal
 

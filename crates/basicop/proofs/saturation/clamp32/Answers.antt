@@ -1,5 +1,5 @@
 -- `clamp32` meets its contract: the ends of an i32's range are the definition's.
-use mir.Syntax.{w32, w64}
+use Rattle.std.proofs.Common.{w32, w64}
 use Rattle.basicop.proofs.Clamp.{held}
 use Rattle.basicop.proofs.saturation.clamp32.Goals as goal
 

@@ -1,10 +1,5 @@
 -- `l_shr_r` meets its contract: the bit added is the difference of two shifts.
-use mathlib.Core.Path.{◌≡◌, ◌∙◌}
-use Prim.Native.Nat.{◌-◌}
-use lib.IntN.{nat_abs}
-use mir.Syntax.{w32}
-use mir.Val.{to_z, of_z}
-use mir.Facts.{to_z-of_z}
+use Rattle.std.proofs.Common.{◌≡◌, ◌∙◌, ◌-◌, nat_abs, w32, to_z, of_z, to_z-of_z}
 use Rattle.lists.proofs.Signed.{got}
 use Rattle.basicop.specs.Ops.{asr}
 use Rattle.basicop.proofs.Counts.{l_shr_r_none, l_shr_r_far, Rounded, l_shr_r_is}

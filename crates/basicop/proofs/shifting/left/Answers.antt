@@ -1,12 +1,6 @@
 -- `left` meets its contract: a count above 31 clamps as 31 does.
-use mathlib.Core.Path.{◌∙◌}
-use Prim.Native.Nat.{min, ◌<◌, ◌+◌, ◌^◌}
-use native.Mathlib.Omega.{arith}
-use lib.Pow.{pow_mono}
+use Rattle.std.proofs.Common.{◌∙◌, min, ◌<◌, ◌+◌, ◌^◌, arith, pow_mono, w32, w64, SFits, to_z-of_z}
 use lib.Signed.{mag}
-use mir.Syntax.{w32, w64}
-use mir.Val.{SFits}
-use mir.Facts.{to_z-of_z}
 use Rattle.lists.proofs.Signed.{got}
 use Rattle.basicop.proofs.Calls.{rules_ℤ}
 use Rattle.basicop.proofs.Clamp.{clamp_min}

@@ -1,7 +1,5 @@
 -- `right` meets its contract: a count above 31 leaves the sign as 31 does.
-use Prim.Native.Nat.{min}
-use mir.Syntax.{w32}
-use mir.Facts.{to_z-of_z}
+use Rattle.std.proofs.Common.{min, w32, to_z-of_z}
 use Rattle.basicop.specs.Ops.{asr}
 use Rattle.basicop.proofs.Shift.{asr_min, asr_same}
 use Rattle.basicop.proofs.shifting.right.Goals as goal

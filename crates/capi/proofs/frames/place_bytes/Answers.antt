@@ -1,5 +1,5 @@
 -- `capi::place_bytes` meets its contract: each place is a byte.
-use borrow.Author.Rules.{rules}
+use Rattle.std.proofs.Common.{rules}
 use Rattle.capi.proofs.Buffers.{called_at_bytes}
 use Rattle.capi.proofs.frames.place_bytes.Goals as goal
 

@@ -1,6 +1,5 @@
 -- `capi::mr74_gain_decode`: what does not fit is left; else innovation and energies are read, the index is decoded, and energies and gains are written.
-use mathlib.Core.Path.{ap, ◌∙◌}
-use mir.Facts.{to_z-of_z}
+use Rattle.std.proofs.Common.{ap, ◌∙◌, to_z-of_z}
 use Rattle.coding.specs.Bytes.{words}
 use Rattle.capi.specs.Indexed.{table_in}
 use Rattle.capi.proofs.Codes.{gain_place}

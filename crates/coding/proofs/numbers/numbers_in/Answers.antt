@@ -1,9 +1,5 @@
 -- `coding::numbers_in` meets its contract: each call gives the number of its pair of bytes.
-use Prim.Native.Nat.{◌+◌, ◌*◌}
-use borrow.Author.Rules.{rules}
-use mathlib.Core.Path.{◌≡◌, ◌∙◌}
-use native.Mathlib.Omega.{arith}
-use lib.ListN.{length, get_or}
+use Rattle.std.proofs.Common.{◌+◌, ◌*◌, rules, ◌≡◌, ◌∙◌, arith, length, get_or}
 use Rattle.lists.proofs.Made.{made}
 use Rattle.coding.specs.Bytes.{signed16, unsigned, words}
 use Rattle.coding.proofs.Words.{words_length, at_words}

@@ -1,8 +1,5 @@
 -- `coding::put` meets its contract: what is put so far is the bytes of as many numbers.
-use mathlib.Core.Path.{refl}
-use native.Mathlib.Omega.{arith}
-use Prim.Native.Nat.{◌^◌, ◌<◌}
-use borrow.Author.Rules.{rules}
+use Rattle.std.proofs.Common.{refl, arith, ◌^◌, ◌<◌, rules}
 use lib.Signed.{mag}
 use Rattle.lists.specs.Lists.{at}
 use Rattle.coding.specs.Bytes.{bytes_of}

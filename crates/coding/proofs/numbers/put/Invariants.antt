@@ -1,7 +1,5 @@
 -- `coding::put` meets its contract: what is put so far is the bytes of as many numbers.
-use Prim.Native.Nat.{◌*◌}
-use mathlib.Core.Path.{◌≡◌}
-use lib.ListN.{take}
+use Rattle.std.proofs.Common.{◌*◌, ◌≡◌, take}
 use Rattle.coding.specs.Bytes.{bytes_of}
 use Rattle.coding.proofs.numbers.put.Given as goal
 

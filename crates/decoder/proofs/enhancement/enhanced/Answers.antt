@@ -1,5 +1,5 @@
 -- `decoder::enhanced` meets its contract: each sample is enhanced.
-use borrow.Author.Rules.{rules}
+use Rattle.std.proofs.Common.{rules}
 use Rattle.lists.proofs.Made.{made_pairwise}
 use Rattle.decoder.specs.Enhance.{enhanced_at, enhanced}
 use Rattle.decoder.proofs.enhancement.enhanced.Goals as goal

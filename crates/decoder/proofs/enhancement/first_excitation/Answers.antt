@@ -1,13 +1,6 @@
 -- `decoder::first_excitation` meets its contract: the difference from 16384, clamped, is above 0 just where the doubled sharpening is above 16384.
-use mathlib.Core.Path.{◌≡◌, ap, ◌∙◌}
-use mathlib.Core.Bool.{true, false}
-use mathlib.Core.List.{List}
-use borrow.Author.Rules.{rules}
-use lib.IntN.{ℤ, pos}
+use Rattle.std.proofs.Common.{◌≡◌, ap, ◌∙◌, true, false, List, rules, ℤ, pos, w16, SFits, to_z-of_z}
 use lib.Signed.{lt_z}
-use mir.Syntax.{w16}
-use mir.Val.{SFits}
-use mir.Facts.{to_z-of_z}
 use Rattle.basicop.specs.Ops.{sub, shl}
 use Rattle.basicop.proofs.Clamp.{clamp_above}
 use Rattle.energy.specs.Gain.{agc2}

@@ -1,9 +1,5 @@
 -- `control_gain` meets its contract: by the output's energy.
-use mathlib.Core.Path.{◌∙◌}
-use borrow.Author.Rules.{rules}
-use mir.Syntax.{w16}
-use mir.Val.{SFits}
-use mir.Facts.{to_z-of_z}
+use Rattle.std.proofs.Common.{◌∙◌, rules, w16, SFits, to_z-of_z}
 use Rattle.lists.proofs.Signed.{back, got}
 use Rattle.energy.proofs.control.Smoothing.{factor}
 use Rattle.energy.proofs.control.Controls.{agc_none, agc_some}

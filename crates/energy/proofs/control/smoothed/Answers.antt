@@ -1,11 +1,5 @@
 -- `smoothed` meets its contract: its loop fills the samples in place and counts the steps of the gain.
-use Prim.Native.Nat.{suc}
-use native.Mathlib.Numerals.{add-one}
-use borrow.Author.Rules.{rules}
-use mathlib.Core.Path.{refl, ap₂, ◌∙◌}
-use mir.Syntax.{w16}
-use mir.Val.{SFits}
-use mir.Facts.{to_z-of_z}
+use Rattle.std.proofs.Common.{suc, add-one, rules, refl, ap₂, ◌∙◌, w16, SFits, to_z-of_z}
 use Rattle.lists.specs.Lists.{at}
 use Rattle.lists.proofs.Signed.{back, got}
 use Rattle.lists.proofs.Entries.{length_tab, at_tab}

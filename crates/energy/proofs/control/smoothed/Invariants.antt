@@ -1,5 +1,5 @@
 -- `smoothed` meets its contract: its loop fills the samples in place and counts the steps of the gain.
-use Prim.Native.Nat.{ℕ}
+use Rattle.std.proofs.Common.{ℕ}
 use Rattle.lists.specs.Lists.{tab}
 use Rattle.lists.proofs.Fill.{Filled, Untouched}
 use Rattle.lists.proofs.Count.{Iter}

@@ -1,9 +1,5 @@
 -- `energy_gain` meets its contract: the energies are positive where the ratio is taken.
-use mathlib.Core.Path.{◌≡◌, ◌∙◌}
-use lib.IntN.{pos}
-use lib.Signed.{◌<ℤ◌}
-use mir.Syntax.{w16, w32}
-use mir.Val.{to_z, of_z}
+use Rattle.std.proofs.Common.{◌≡◌, ◌∙◌, pos, ◌<ℤ◌, w16, w32, to_z, of_z}
 use Rattle.lists.proofs.Signed.{got}
 use Rattle.basicop.proofs.Tests.{at_most_yes, at_most_no}
 use Rattle.energy.specs.Energy.{energy}

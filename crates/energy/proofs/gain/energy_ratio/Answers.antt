@@ -1,8 +1,5 @@
 -- `energy_ratio` meets its contract: for positive energies the division is in order.
-use mathlib.Core.Path.{◌≡◌}
-use mir.Syntax.{w16, w32}
-use mir.Val.{to_z, of_z}
-use mir.Facts.{to_z-of_z}
+use Rattle.std.proofs.Common.{◌≡◌, w16, w32, to_z, of_z, to_z-of_z}
 use Rattle.lists.proofs.Signed.{got}
 use Rattle.basicop.specs.Ops.{norm_l}
 use Rattle.energy.specs.Gain.{exp_out, gain_out, gain_in}

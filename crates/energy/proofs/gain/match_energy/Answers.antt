@@ -1,5 +1,5 @@
 -- `match_energy` meets its contract: by the output's energy.
-use mathlib.Core.Path.{◌∙◌}
+use Rattle.std.proofs.Common.{◌∙◌}
 use Rattle.energy.proofs.control.Controls.{agc2_none, agc2_some}
 use Rattle.energy.proofs.gain.match_energy.Goals as goal
 

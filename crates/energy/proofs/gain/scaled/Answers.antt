@@ -1,5 +1,5 @@
 -- `scaled` meets its contract: each sample is scaled.
-use borrow.Author.Rules.{rules}
+use Rattle.std.proofs.Common.{rules}
 use Rattle.lists.proofs.Made.{made_map}
 use Rattle.energy.specs.Gain.{scaled_by}
 use Rattle.energy.proofs.gain.scaled.Goals as goal

@@ -1,6 +1,5 @@
 -- `scaled_ratio` meets its contract: the calls are the definition's.
-use mir.Syntax.{w16, w32}
-use mir.Facts.{to_z-of_z}
+use Rattle.std.proofs.Common.{w16, w32, to_z-of_z}
 use Rattle.lists.proofs.Signed.{got}
 use Rattle.basicop.proofs.Range.{widened}
 use Rattle.energy.proofs.gain.scaled_ratio.Goals as goal

@@ -1,10 +1,5 @@
 -- `doubled_square` meets its contract: twice a square of 16 bits is at most 2 ^ 31.
-use mathlib.Core.Path.{◌≡◌, refl}
-use native.Mathlib.Omega.{arith}
-use lib.IntN.{pos, ◌*ℤ◌}
-use mir.Syntax.{w16, w64}
-use mir.Val.{SFits, to_z, of_z}
-use mir.Facts.{to_z-of_z}
+use Rattle.std.proofs.Common.{◌≡◌, refl, arith, pos, ◌*ℤ◌, w16, w64, SFits, to_z, of_z, to_z-of_z}
 use Rattle.basicop.proofs.Range.{sfits_mul, sfits_scale, widened}
 use Rattle.energy.proofs.Sums.{square_is, square_most}
 use Rattle.energy.proofs.sum.doubled_square.Goals as goal

@@ -1,6 +1,5 @@
 -- `energy` meets its contract: the sum is at the limit where it is above 2147483646.
-use mathlib.Core.Path.{ap, ◌∙◌}
-use mir.Syntax.{w32}
+use Rattle.std.proofs.Common.{ap, ◌∙◌, w32}
 use Rattle.lists.proofs.Signed.{got}
 use Rattle.basicop.proofs.Tests.{less_yes, less_no}
 use Rattle.energy.specs.Energy.{squares}

@@ -1,12 +1,5 @@
 -- `squares` meets its contract: the sum is the exact one, which is held to 32 bits once.
-use native.Mathlib.Omega.{arith}
-use borrow.Author.Rules.{rules}
-use mathlib.Core.Path.{◌≡◌, ap, ◌∙◌}
-use Prim.Native.Nat.{ℕ, ◌<◌, ◌*◌}
-use lib.IntN.{ℤ, pos, nat_abs}
-use lib.ListN.{length}
-use mir.Syntax.{w16, w32, w64}
-use mir.Val.{SFits}
+use Rattle.std.proofs.Common.{arith, rules, ◌≡◌, ap, ◌∙◌, ℕ, ◌<◌, ◌*◌, ℤ, pos, nat_abs, length, w16, w32, w64, SFits}
 use mir.Facts.{to_z_pos}
 use Rattle.std.proofs.lemmas.Iterator.{YieldsList-from_slice, YieldsList-from_map}
 use Rattle.std.proofs.lemmas.Iterator.Consumers.{YieldsList-at, sum_by_from_yields_List}

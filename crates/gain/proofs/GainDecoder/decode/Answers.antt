@@ -1,9 +1,5 @@
 -- `decode` meets its contract: accepted, the gains of the index, which is then a row's; refused, no gains.
-use mathlib.Core.Path.{◌≡◌, refl}
-use Prim.Native.Nat.{ℕ, ◌<◌}
-use native.Mathlib.Omega.{arith}
-use lib.IntN.{pos, nat_abs}
-use mir.Facts.{to_z-of_z}
+use Rattle.std.proofs.Common.{◌≡◌, refl, ℕ, ◌<◌, arith, pos, nat_abs, to_z-of_z}
 use Rattle.gain.proofs.Groups.{decode_index}
 use Rattle.gain.proofs.Results.{call_accepted, call_refused}
 use Rattle.gain.proofs.GainDecoder.decode.Goals as goal

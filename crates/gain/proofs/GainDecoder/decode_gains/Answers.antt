@@ -1,10 +1,5 @@
 -- `decode_gains` meets its contract: the row's numbers, the code gain of the predicted gain, and the row's energy entered.
-use Prim.Native.Nat.{ℕ}
-use lib.IntN.{pos}
-use mir.Syntax.{w16}
-use mir.Val.{SFits}
-use mir.Facts.{to_z-of_z}
-use Rattle.std.proofs.Common.{rules}
+use Rattle.std.proofs.Common.{ℕ, pos, w16, SFits, to_z-of_z, rules}
 use Rattle.lists.specs.Lists.{at}
 use Rattle.lists.proofs.Signed.{entry_fits}
 use Rattle.gain.proofs.Signs.{fraction_in}

@@ -1,6 +1,5 @@
 -- `as_table` meets its contract: 33 numbers, and neither search finds a place.
-use mathlib.Core.Path.{◌≡◌, refl}
-use mathlib.Core.Bool.{not, ◌&&◌}
+use Rattle.std.proofs.Common.{◌≡◌, refl, not, ◌&&◌}
 use Rattle.gain.specs.Checks.{is_table}
 use Rattle.gain.proofs.Kept.{table_tests, no_table}
 use Rattle.gain.proofs.checks.as_table.Goals as goal

@@ -1,6 +1,5 @@
 -- `check_indices` meets its contract: the place is that of the search.
-use mathlib.Core.List.{[]}
-use mathlib.Core.Path.{◌∙◌}
+use Rattle.std.proofs.Common.{[], ◌∙◌}
 use Rattle.outcome.specs.declared.Refusal.TheVariants.{GainIndex}
 use Rattle.outcome.proofs.Checks.{place_met, place_unmet, none_left}
 use Rattle.gain.proofs.checks.check_indices.Goals as goal

@@ -1,5 +1,5 @@
 -- `check_tables` meets its contract: the logarithm's table decides before the power's.
-use mathlib.Core.Path.{refl}
+use Rattle.std.proofs.Common.{refl}
 use Rattle.outcome.specs.Checks.{first_met}
 use Rattle.gain.proofs.checks.check_tables.Goals as goal
 

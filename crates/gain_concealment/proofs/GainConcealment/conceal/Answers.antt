@@ -1,9 +1,5 @@
 -- `conceal` meets its contract: each gain is the definition's, call by call.
-use mathlib.Core.Path.{◌≡◌}
-use borrow.Author.Rules.{rules}
-use mir.Syntax.{w16}
-use mir.Val.{SFits, to_z, of_z}
-use mir.Facts.{to_z-of_z}
+use Rattle.std.proofs.Common.{◌≡◌, rules, w16, SFits, to_z, of_z, to_z-of_z}
 use Rattle.lists.proofs.Signed.{got}
 use Rattle.gain_concealment.specs.Median.{median}
 use Rattle.gain_concealment.specs.Concealment.{held_to, concealed_gains}

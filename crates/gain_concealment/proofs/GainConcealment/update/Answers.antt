@@ -1,11 +1,5 @@
 -- `update` meets its contract: both fives take in a number, the pitch gain held to 16384.
-use borrow.Author.Rules.{rules}
-use Prim.Native.Nat.{ℕ}
-use mathlib.Core.Path.{◌≡◌}
-use lib.ListN.{length}
-use mir.Syntax.{w16}
-use mir.Val.{SFits}
-use mir.Facts.{to_z-of_z}
+use Rattle.std.proofs.Common.{rules, ℕ, ◌≡◌, length, w16, SFits, to_z-of_z}
 use Rattle.lists.specs.Lists.{at}
 use Rattle.lists.proofs.Signed.{entry_fits}
 use Rattle.gain_concealment.specs.Concealment.{updated}

@@ -1,6 +1,5 @@
 -- `lines::mark` meets its contract: its three cases, by the test of the peak and then of the flags, are the definition's.
-use mathlib.Core.Path.{sym, ◌∙◌}
-use mir.Facts.{to_z-of_z}
+use Rattle.std.proofs.Common.{sym, ◌∙◌, to_z-of_z}
 use Rattle.lines.proofs.Peaks.{mark_loud, mark_retried, mark_plain, any_listed}
 use Rattle.lines.proofs.marks.mark.Goals as goal
 

@@ -1,8 +1,7 @@
 -- `lines::peak` meets its contract: what it folds from 0, sample by sample, is the largest distance.
-use Rattle.std.proofs.Common.{◌≡◌, ◌∙◌, ℤ, pos, fold, unsigned_abs, arith}
+use Rattle.std.proofs.Common.{◌≡◌, ◌∙◌, ℤ, pos, fold, unsigned_abs, arith, w32}
 use Rattle.std.specs.Int.{int_max}
 use Rattle.std.proofs.lemmas.Grind.{common_steps}
-use mir.Syntax.{w32}
 use Rattle.lists.proofs.Signed.{back}
 use Rattle.lines.proofs.Peaks.{peak_folded}
 use Rattle.lines.proofs.marks.peak.Goals as goal

@@ -1,5 +1,5 @@
 -- `check_erased` meets its contract: a sheet that its length or its own checks turn back is turned back.
-use mathlib.Core.Path.{sym}
+use Rattle.std.proofs.Common.{sym}
 use Rattle.std.proofs.lemmas.Result.{err_from_is_err_and}
 use Rattle.mr74.specs.Checks.{erased_sheet_checks}
 use Rattle.mr74.proofs.Order.{lengths_refuse, sheet_refuses}

@@ -1,5 +1,5 @@
 -- `check_erased_sheet` meets its contract: group after group, the first that refuses decides.
-use mathlib.Core.Path.{◌∙◌}
+use Rattle.std.proofs.Common.{◌∙◌}
 use Rattle.outcome.proofs.Checks.{refused_here, accepted_here}
 use Rattle.mr74.specs.Checks.{lsf_checks, stage_checks}
 use Rattle.mr74.proofs.checks.check_erased_sheet.Goals as goal

@@ -1,7 +1,5 @@
 -- `check_index_sheet` meets its contract: group after group, the first that refuses decides.
-use mathlib.Core.List.{List, ◌++◌}
-use mathlib.Core.Path.{◌≡◌, sym, ◌∙◌}
-use lib.IntN.{ℤ}
+use Rattle.std.proofs.Common.{List, ◌++◌, ◌≡◌, sym, ◌∙◌, ℤ}
 use Rattle.std.specs.Prelude.{Ok}
 use Rattle.std.proofs.lemmas.Result.{err_from_is_err_and}
 use Rattle.outcome.specs.Checks.{first_met}

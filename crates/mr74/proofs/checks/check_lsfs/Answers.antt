@@ -1,7 +1,5 @@
 -- `check_lsfs` meets its contract: the places are those of the two searches.
-use mathlib.Core.List.{[]}
-use mathlib.Core.Path.{◌∙◌}
-use native.Mathlib.Omega.{arith}
+use Rattle.std.proofs.Common.{[], ◌∙◌, arith}
 use Rattle.outcome.specs.declared.Refusal.TheVariants.{Lsf, LsfGap}
 use Rattle.outcome.proofs.Checks.{place_met, place_unmet, none_left}
 use Rattle.lists.proofs.Entries.{stretch_length}

@@ -1,6 +1,5 @@
 -- `check_sheet` meets its contract: group after group, the first that refuses decides.
-use mathlib.Core.List.{◌++◌}
-use mathlib.Core.Path.{◌∙◌}
+use Rattle.std.proofs.Common.{◌++◌, ◌∙◌}
 use Rattle.outcome.proofs.Checks.{refused_here, accepted_here}
 use Rattle.mr74.specs.Checks.{lsf_checks, pitch_checks, gain_checks}
 use Rattle.mr74.proofs.checks.check_sheet.Goals as goal

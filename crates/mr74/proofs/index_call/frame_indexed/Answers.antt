@@ -1,8 +1,5 @@
 -- The checks, then the frame of the gains so obtained or the refusal: energies_accepted, energies_refused.
-use native.Mathlib.Omega.{arith}
-use mathlib.Core.Path.{◌≡◌, ap, ◌∙◌}
-use borrow.Author.Rules.{rules}
-use lib.ListN.{length}
+use Rattle.std.proofs.Common.{arith, ◌≡◌, ap, ◌∙◌, rules, length}
 use Rattle.outcome.specs.Outcome.{is_accepted}
 use Rattle.mr74.specs.Prepass.{PreparedEnergies}
 use Rattle.mr74.specs.Checks.{indexed_outcome}

@@ -1,9 +1,6 @@
 -- `conceal_lags` meets its contract: each lag lies in 19..=144 as the one before does.
-use mathlib.Core.Path.{◌≡◌, sym, subst}
-use lib.IntN.{pos, nat_abs}
+use Rattle.std.proofs.Common.{◌≡◌, sym, subst, pos, nat_abs, w16, to_z, of_z}
 use lib.Signed.{le_z_yes}
-use mir.Syntax.{w16}
-use mir.Val.{to_z, of_z}
 use Rattle.basicop.proofs.Ints.{≤ℤ_trans}
 use Rattle.basicop.proofs.Range.{cast_gives}
 use Rattle.pitch.specs.Lag.{lag_of}

@@ -1,5 +1,5 @@
 -- `decode_lags` meets its contract: what the check has shown of the indices gives lags in their range.
-use mathlib.Core.Path.{ap}
+use Rattle.std.proofs.Common.{ap}
 use Rattle.outcome.specs.Outcome.{is_accepted}
 use Rattle.mr74.proofs.Passed.{pitch_indices}
 use Rattle.mr74.proofs.Usable.{pair_in}

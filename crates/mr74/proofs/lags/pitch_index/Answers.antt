@@ -1,6 +1,5 @@
 -- `lags::pitch_index` meets its contract: an accepted index is a byte.
-use Prim.Native.Nat.{◌+◌}
-use mathlib.Core.Path.{ap}
+use Rattle.std.proofs.Common.{◌+◌, ap}
 use Rattle.lists.specs.Lists.{at}
 use Rattle.outcome.specs.Outcome.{is_accepted}
 use Rattle.mr74.proofs.Sheets.{byte_fits}

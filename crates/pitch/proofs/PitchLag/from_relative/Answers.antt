@@ -1,5 +1,5 @@
 -- `PitchLag::from_relative` meets its contract: the least lag lies in 20..=134, so no step clamps and the product is the division by 3: relative_is.
-use mathlib.Core.Path.{refl, sym, ◌∙◌}
+use Rattle.std.proofs.Common.{refl, sym, ◌∙◌}
 use Rattle.pitch.proofs.Lags.{lag_eq, relative_is}
 use Rattle.pitch.proofs.PitchLag.from_relative.Goals as goal
 

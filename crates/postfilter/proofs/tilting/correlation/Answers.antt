@@ -1,9 +1,5 @@
 -- `postfilter::correlation` meets its contract: the fold goes over the neighbours, each number beside the next.
-use borrow.Author.Rules.{rules}
-use mathlib.Core.Path.{◌∙◌}
-use lib.IntN.{ℤ}
-use lib.ListN.{take, drop}
-use mir.Syntax.{w32}
+use Rattle.std.proofs.Common.{rules, ◌∙◌, ℤ, take, drop, w32}
 use Rattle.std.proofs.lemmas.Iterator.{YieldsList-from_slice, YieldsList-from_zip}
 use Rattle.std.proofs.lemmas.Iterator.Consumers.{fold_from_yields_List}
 use Rattle.lists.proofs.Signed.{got}

@@ -1,7 +1,5 @@
 -- `postfilter::impulse` meets its contract: of forty samples, the 22 that were made.
-use mathlib.Core.Path.{◌≡◌, ap, ◌∙◌}
-use borrow.Author.Rules.{rules}
-use lib.ListN.{length, take}
+use Rattle.std.proofs.Common.{◌≡◌, ap, ◌∙◌, rules, length, take}
 use Rattle.postfilter.proofs.Impulses.{impulse_first}
 use Rattle.postfilter.proofs.tilting.impulse.Goals as goal
 

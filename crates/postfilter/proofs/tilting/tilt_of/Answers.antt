@@ -1,8 +1,5 @@
 -- `postfilter::tilt_of` meets its contract: its test is the definition's, and the correlation is at most the energy, so that the division is in order.
-use mathlib.Core.Path.{◌≡◌, ap, ◌∙◌}
-use lib.IntN.{pos}
-use mir.Syntax.{w16, w32}
-use mir.Val.{to_z, of_z}
+use Rattle.std.proofs.Common.{◌≡◌, ap, ◌∙◌, pos, w16, w32, to_z, of_z}
 use Rattle.lists.proofs.Signed.{got}
 use Rattle.basicop.specs.Ops.{mult, extract_h}
 use Rattle.postfilter.specs.Tilt.{r0, r1}

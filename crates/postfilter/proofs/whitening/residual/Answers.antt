@@ -1,10 +1,5 @@
 -- `postfilter::residual` meets its contract: each number is that of its window of eleven inputs.
-use Prim.Native.Nat.{◌+◌}
-use borrow.Author.Rules.{rules}
-use mathlib.Core.Path.{◌≡◌, ap, ◌∙◌}
-use native.Mathlib.Omega.{arith}
-use lib.ListN.{length, take, drop}
-use lib.IntN.{ℤ, pos}
+use Rattle.std.proofs.Common.{◌+◌, rules, ◌≡◌, ap, ◌∙◌, arith, length, take, drop, ℤ, pos}
 use Rattle.basicop.specs.Ops.{l_shl, round}
 use Rattle.lists.proofs.Made.{made_tab}
 use Rattle.postfilter.specs.Residual.{residual_at, residual}

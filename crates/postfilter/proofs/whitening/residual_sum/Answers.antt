@@ -1,14 +1,5 @@
 -- `postfilter::residual_sum` meets its contract: after j steps the sum is that of j steps, and by its size none of them clamps of a light row.
-use mathlib.Core.Path.{◌≡◌, refl, sym, ◌∙◌}
-use Prim.Native.Nat.{ℕ, ◌+◌, ◌-◌, ◌<◌}
-use mathlib.Core.List.{List}
-use native.Mathlib.Numerals.{add-one}
-use borrow.Author.Rules.{rules}
-use borrow.Author.Tests.{ltb-true}
-use denote.Ref.{Bor}
-use lib.IntN.{ℤ}
-use lib.ListN.{length, take}
-use mir.Syntax.{w16, w32}
+use Rattle.std.proofs.Common.{◌≡◌, refl, sym, ◌∙◌, ℕ, ◌+◌, ◌-◌, ◌<◌, List, add-one, rules, ltb-true, Bor, ℤ, length, take, w16, w32}
 use Rattle.std.proofs.lemmas.List.{length_push}
 use Rattle.lists.specs.Lists.{at}
 use Rattle.lists.proofs.Signed.{back, got}

@@ -1,5 +1,5 @@
 -- `postfilter::residual_sum` meets its contract: after j steps the sum is that of j steps, and by its size none of them clamps of a light row.
-use lib.ListN.{length}
+use Rattle.std.proofs.Common.{length}
 use Rattle.postfilter.proofs.Residuals.{Summed}
 use Rattle.postfilter.proofs.whitening.residual_sum.Given as goal
 

@@ -1,10 +1,5 @@
 -- `postfilter::weight` meets its contract: the first coefficient, and each of the others by its factor.
-use Prim.Native.Nat.{◌+◌}
-use borrow.Author.Rules.{rules}
-use mathlib.Core.Path.{◌≡◌, ap, ap₂, ◌∙◌}
-use mathlib.Core.List.{◌++◌}
-use lib.IntN.{pos}
-use lib.ListN.{drop}
+use Rattle.std.proofs.Common.{◌+◌, rules, ◌≡◌, ap, ap₂, ◌∙◌, ◌++◌, pos, drop}
 use Rattle.std.proofs.lemmas.List.{take_more}
 use Rattle.lists.specs.Lists.{at}
 use Rattle.lists.proofs.Entries.{at_drop}

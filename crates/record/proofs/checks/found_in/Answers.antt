@@ -1,8 +1,5 @@
 -- `found_in` meets its contract: group after group, the first that refuses decides; where none does, the body stands before the trailer.
-use mathlib.Core.Path.{ap, sym, ◌∙◌}
-use Prim.Native.Nat.{ℕ, ◌-◌, ◌≤◌}
-use lib.ListN.{length}
-use native.Mathlib.Omega.{arith}
+use Rattle.std.proofs.Common.{ap, sym, ◌∙◌, ℕ, ◌-◌, ◌≤◌, length, arith}
 use Rattle.std.proofs.lemmas.Result.{err_from_is_err_and}
 use Rattle.outcome.specs.Outcome.{is_accepted}
 use Rattle.state.specs.Layout.{state_of}

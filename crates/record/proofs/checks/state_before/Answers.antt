@@ -1,7 +1,5 @@
 -- `state_before` meets its contract: of either version, the body is the last of the bytes, or there are too few.
-use mathlib.Core.Path.{ap, sym, ◌∙◌}
-use mathlib.Core.List.{List, ◌++◌, append-nil}
-use Prim.Native.Nat.{ℕ}
+use Rattle.std.proofs.Common.{ap, sym, ◌∙◌, List, ◌++◌, append-nil, ℕ}
 use Rattle.state.specs.Layout.{state_of}
 use Rattle.coding.specs.Bytes.{words}
 use Rattle.coding.specs.Body.{missing}

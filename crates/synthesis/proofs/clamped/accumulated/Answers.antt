@@ -1,9 +1,5 @@
 -- `synthesis::accumulated` meets its contract: the fold goes by the taps, and after k of them the sum is the clamped one of k taps.
-use borrow.Author.Rules.{rules}
-use mathlib.Core.Path.{◌≡◌, ap₂, ◌∙◌}
-use lib.IntN.{ℤ}
-use mir.Syntax.{w16, w32}
-use mir.Val.{to_z, of_z}
+use Rattle.std.proofs.Common.{rules, ◌≡◌, ap₂, ◌∙◌, ℤ, w16, w32, to_z, of_z}
 use Rattle.std.proofs.lemmas.Iterator.Consumers.{fold_from_yields_List}
 use Rattle.lists.specs.Lists.{at}
 use Rattle.lists.proofs.Signed.{back, got}

@@ -1,6 +1,5 @@
 -- `synthesis::filter` meets its contract: the first forty samples are all of them, and the history is the last ten.
-use borrow.Author.Rules.{rules}
-use mathlib.Core.Path.{◌≡◌, ◌∙◌}
+use Rattle.std.proofs.Common.{rules, ◌≡◌, ◌∙◌}
 use Rattle.synthesis.specs.Synthesis.{samples, filtered}
 use Rattle.synthesis.proofs.Samples.{first_samples_all}
 use Rattle.synthesis.proofs.clamped.filter.Goals as goal

@@ -1,12 +1,5 @@
 -- `synthesis::first_samples` meets its contract: n samples are fed, and zeros stand after them.
-use Prim.Native.Nat.{◌+◌, ◌≤◌, ◌<◌}
-use borrow.Author.Rules.{rules}
-use mathlib.Core.Path.{◌≡◌, ◌∙◌}
-use native.Mathlib.Omega.{arith}
-use lib.IntN.{pos}
-use lib.ListN.{length, take}
-use lib.Seq.{length-take-le, get_or-take}
-use mir.Syntax.{w16, w32}
+use Rattle.std.proofs.Common.{◌+◌, ◌≤◌, ◌<◌, rules, ◌≡◌, ◌∙◌, arith, pos, length, take, length-take-le, get_or-take, w16, w32}
 use Rattle.lists.specs.Lists.{at}
 use Rattle.lists.proofs.Signed.{back, got}
 use Rattle.synthesis.proofs.Windows.{acc_window}

@@ -1,7 +1,6 @@
 -- `synthesis::doubled` meets its contract: it tests twice the product.
-use lib.IntN.{pos, *ℤ_comm, ◌*ℤ◌}
-use mir.Syntax.{w32}
-use mir.Facts.{to_z-of_z}
+use Rattle.std.proofs.Common.{pos, ◌*ℤ◌, w32, to_z-of_z}
+use lib.IntN.{*ℤ_comm}
 use Rattle.lists.proofs.Signed.{got}
 use Rattle.synthesis.proofs.whole.doubled.Goals as goal
 

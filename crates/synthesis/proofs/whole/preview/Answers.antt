@@ -1,12 +1,5 @@
 -- `synthesis::preview` meets its contract: n samples are fed, and none of their numbers lies outside.
-use Prim.Native.Nat.{◌+◌, ◌≤◌}
-use borrow.Author.Rules.{rules}
-use mathlib.Core.Path.{◌≡◌, refl}
-use native.Mathlib.Omega.{arith}
-use lib.ListN.{length}
-use mir.Syntax.{w16}
-use mir.Val.{SFits}
-use mir.Facts.{to_z-of_z}
+use Rattle.std.proofs.Common.{◌+◌, ◌≤◌, rules, ◌≡◌, refl, arith, length, w16, SFits, to_z-of_z}
 use Rattle.lists.specs.Lists.{at}
 use Rattle.lists.proofs.Signed.{back}
 use Rattle.synthesis.specs.Synthesis.{previewed}

@@ -1,10 +1,5 @@
 -- `synthesis::product` meets its contract: the product fits 32 bits, and y is at most 32768 in size.
-use mathlib.Core.Path.{◌≡◌, refl}
-use native.Mathlib.Nat.{le_refl}
-use lib.IntN.{nat_abs}
-use mir.Syntax.{w32}
-use mir.Val.{to_z, of_z}
-use mir.Facts.{to_z-of_z}
+use Rattle.std.proofs.Common.{◌≡◌, refl, le_refl, nat_abs, w32, to_z, of_z, to_z-of_z}
 use lib.Signed.{nat_abs-le}
 use Rattle.basicop.proofs.Range.{mul_bound, sfits_mul}
 use Rattle.lists.proofs.Signed.{got}

@@ -1,7 +1,6 @@
 -- `totals::mean` meets its contract: 128 bits hold sum and count, and 32 the quotient, which is no farther from zero than the sum.
-use Rattle.std.proofs.Common.{◌≡◌, ◌∙◌}
-use mir.Syntax.{w32, w128}
-use mir.Facts.{to_z-of_z}
+use Rattle.std.proofs.Common.{◌≡◌, ◌∙◌, w32, to_z-of_z}
+use mir.Syntax.{w128}
 use Rattle.lists.proofs.Signed.{back}
 use Rattle.shift_report.specs.Report.{mean_of}
 use Rattle.totals.proofs.Means.{mean_divided, mean_fits}

@@ -1,7 +1,5 @@
 -- `totals::push_mean` meets its contract: by the count, the word `none` or the integer that `mean` gives.
-use Rattle.std.proofs.Common.{ap, ◌∙◌, ℤ, List, ℕ, ◌++◌}
-use mir.Syntax.{w32}
-use mir.Facts.{to_z-of_z}
+use Rattle.std.proofs.Common.{ap, ◌∙◌, ℤ, List, ℕ, ◌++◌, w32, to_z-of_z}
 use Rattle.lines.specs.Lines.{integer}
 use Rattle.lists.proofs.Signed.{back}
 use Rattle.shift_report.specs.Report.{mean_of}

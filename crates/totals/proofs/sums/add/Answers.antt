@@ -1,14 +1,5 @@
 -- `totals::add` meets its contract: by the outcome, the numbers of the call are added to the sums, and the count keeps every sum in its type.
-use native.Mathlib.Omega.{arith}
-use borrow.Author.Rules.{rules}
-use Prim.Native.Nat.{◌+◌}
-use mathlib.Core.Path.{◌≡◌, ap}
-use mathlib.Core.List.{List}
-use lib.IntN.{ℤ, nat_abs, ◌+ℤ◌}
-use lib.ListN.{length}
-use mir.Syntax.{w32}
-use mir.Val.{SFits}
-use mir.Facts.{to_z-of_z}
+use Rattle.std.proofs.Common.{arith, rules, ◌+◌, ◌≡◌, ap, List, ℤ, nat_abs, ◌+ℤ◌, length, w32, SFits, to_z-of_z}
 use Rattle.basicop.specs.Words.{Words}
 use Rattle.basicop.proofs.Range.{nat_abs_add}
 use Rattle.lists.proofs.Signed.{back, entry_fits}

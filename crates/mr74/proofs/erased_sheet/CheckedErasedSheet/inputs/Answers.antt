@@ -1,13 +1,5 @@
 -- `CheckedErasedSheet::inputs` meets its contract: step after step, and the LSFs lie in their range.
-use mathlib.Core.List.{List, [], ◌∷◌}
-use mathlib.Core.Path.{◌≡◌, refl, ap, sym, ◌∙◌, subst}
-use borrow.Author.Rules.{rules}
-use native.Mathlib.Omega.{arith}
-use lib.IntN.{pos}
-use lib.ListN.{length}
-use mir.Syntax.{w16}
-use mir.Val.{SFits}
-use mir.Facts.{to_z-of_z}
+use Rattle.std.proofs.Common.{List, [], ◌∷◌, ◌≡◌, refl, ap, sym, ◌∙◌, subst, rules, arith, pos, length, w16, SFits, to_z-of_z}
 use Rattle.basicop.proofs.Range.{to_z_nat}
 use Rattle.spectral.specs.Lsp.{Frequencies}
 use Rattle.pitch.specs.Lag.{Lag, lag_of}

@@ -1,9 +1,5 @@
 -- `CheckedErasedSheet::step` meets its contract: an accepted stage is below 7, and no concealed gain is negative.
-use mathlib.Core.Path.{◌≡◌, ap, sym, ◌∙◌, subst}
-use borrow.Author.Rules.{rules}
-use lib.IntN.{ℤ}
-use mir.Syntax.{w16, w64}
-use mir.Val.{SFits}
+use Rattle.std.proofs.Common.{◌≡◌, ap, sym, ◌∙◌, subst, rules, ℤ, w16, w64, SFits}
 use Rattle.basicop.proofs.Ints.{arith_ℤ}
 use Rattle.basicop.proofs.Range.{cast_asks, cast_gives}
 use Rattle.pitch.specs.Lag.{lag_of}

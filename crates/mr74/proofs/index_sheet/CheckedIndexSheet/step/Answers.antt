@@ -1,12 +1,5 @@
 -- `CheckedIndexSheet::step` meets its contract: an accepted gain index is below 128, no gain of it is negative, and none that is held.
-use Prim.Native.Nat.{◌+◌, ◌<◌}
-use mathlib.Core.Path.{◌≡◌, ap, sym, ◌∙◌, subst}
-use borrow.Author.Rules.{rules}
-use native.Mathlib.Omega.{arith}
-use lib.IntN.{ℤ, pos, nat_abs}
-use lib.Signed.{◌≤ℤ◌}
-use mir.Syntax.{w16, w64}
-use mir.Val.{SFits, to_z, of_z}
+use Rattle.std.proofs.Common.{◌+◌, ◌<◌, ◌≡◌, ap, sym, ◌∙◌, subst, rules, arith, ℤ, pos, nat_abs, ◌≤ℤ◌, w16, w64, SFits, to_z, of_z}
 use Rattle.lists.specs.Lists.{at}
 use Rattle.basicop.proofs.Ints.{arith_ℤ, le_in}
 use Rattle.basicop.proofs.Range.{cast_asks, cast_gives}

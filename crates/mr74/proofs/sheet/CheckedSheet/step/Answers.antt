@@ -1,10 +1,5 @@
 -- `CheckedSheet::step` meets its contract: no accepted gain is negative, and none that is held.
-use Prim.Native.Nat.{◌+◌, ◌*◌}
-use mathlib.Core.Path.{◌≡◌, ap, sym, subst}
-use borrow.Author.Rules.{rules}
-use mir.Syntax.{w16}
-use mir.Val.{SFits}
-use mir.Facts.{to_z-of_z}
+use Rattle.std.proofs.Common.{◌+◌, ◌*◌, ◌≡◌, ap, sym, subst, rules, w16, SFits, to_z-of_z}
 use Rattle.lists.specs.Lists.{at}
 use Rattle.pitch.specs.Lag.{lag_of}
 use Rattle.gain_concealment.specs.Concealment.{good_gains}

@@ -1,7 +1,5 @@
 -- `Reader::rows` meets its contract: each row is read where the one before ends.
-use native.Mathlib.Omega.{arith}
-use Prim.Native.Nat.{◌<◌}
-use lib.ListN.{length}
+use Rattle.std.proofs.Common.{arith, ◌<◌, length}
 use Rattle.replay.proofs.Rows.{four_rows, too_few}
 use Rattle.replay.proofs.words.Reader.rows.Goals as goal
 

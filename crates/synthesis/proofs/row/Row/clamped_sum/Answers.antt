@@ -1,6 +1,5 @@
 -- `Row::clamped_sum` meets its contract: of a light row the whole sum is the clamped one.
-use mir.Syntax.{w32}
-use mir.Facts.{to_z-of_z}
+use Rattle.std.proofs.Common.{w32, to_z-of_z}
 use Rattle.lists.proofs.Signed.{got}
 use Rattle.synthesis.proofs.Taps.{is_sum_acc}
 use Rattle.synthesis.proofs.row.Row.clamped_sum.Goals as goal

@@ -1,9 +1,5 @@
 -- `Row::sample` meets its contract: none of its numbers lies outside where none up to the sum does and the last two do not.
-use borrow.Author.Rules.{rules}
-use mathlib.Core.Path.{◌∙◌}
-use mir.Syntax.{w16, w32}
-use mir.Val.{SFits}
-use mir.Facts.{to_z-of_z}
+use Rattle.std.proofs.Common.{rules, ◌∙◌, w16, w32, SFits, to_z-of_z}
 use Rattle.basicop.specs.Ops.{asr}
 use Rattle.basicop.proofs.Shift.{asr_fits, sfits_shr_same}
 use Rattle.synthesis.proofs.Passes.{sample_some, sample_fits_all}

@@ -1,6 +1,5 @@
 -- `Row::sum` meets its contract: of a light row no number lies outside.
-use mir.Syntax.{w32}
-use mir.Facts.{to_z-of_z}
+use Rattle.std.proofs.Common.{w32, to_z-of_z}
 use Rattle.lists.proofs.Signed.{got}
 use Rattle.synthesis.proofs.row.Row.sum.Goals as goal
 

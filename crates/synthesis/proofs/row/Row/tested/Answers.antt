@@ -1,14 +1,6 @@
 -- `Row::tested` meets its contract: after k taps the sum is that of k taps, and no number on the way lies outside.
-use borrow.Author.Rules.{rules}
-use denote.Ref.{Bor}
-use mathlib.Core.Path.{◌∙◌}
-use native.Mathlib.Numerals.{add-one}
+use Rattle.std.proofs.Common.{rules, Bor, ◌∙◌, add-one, ℤ, length, w16, w32, SFits, to_z-of_z}
 use Rattle.std.proofs.lemmas.List.{length_push}
-use lib.IntN.{ℤ}
-use lib.ListN.{length}
-use mir.Syntax.{w16, w32}
-use mir.Val.{SFits}
-use mir.Facts.{to_z-of_z}
 use Rattle.lists.specs.Lists.{at}
 use Rattle.lists.proofs.Signed.{back}
 use Rattle.synthesis.proofs.Pairs.{Tap, tap_turn, tap_end}

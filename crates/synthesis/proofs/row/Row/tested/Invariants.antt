@@ -1,5 +1,5 @@
 -- `Row::tested` meets its contract: after k taps the sum is that of k taps, and no number on the way lies outside.
-use lib.ListN.{length}
+use Rattle.std.proofs.Common.{length}
 use Rattle.synthesis.specs.Inner.{IsSum}
 use Rattle.synthesis.proofs.row.Row.tested.Given as goal
 

@@ -1,16 +1,7 @@
 -- `Row::untested` meets its contract: after k taps the half is at most 32768 times the weight so far in size, so that no number lies outside.
-use Prim.Native.Nat.{◌<◌}
-use borrow.Author.Rules.{rules}
-use borrow.Author.Tests.{ltb-true}
-use denote.Ref.{Bor}
-use mathlib.Core.Path.{sym, ◌∙◌}
-use native.Mathlib.Numerals.{add-one}
+use Rattle.std.proofs.Common.{◌<◌, rules, ltb-true, Bor, sym, ◌∙◌, add-one, ℤ, pos, length, w16, w32, to_z, of_z, to_z-of_z}
 use Rattle.std.proofs.lemmas.List.{length_push}
-use lib.IntN.{ℤ, pos, *ℤ_comm}
-use lib.ListN.{length}
-use mir.Syntax.{w16, w32}
-use mir.Val.{to_z, of_z}
-use mir.Facts.{to_z-of_z}
+use lib.IntN.{*ℤ_comm}
 use Rattle.lists.specs.Lists.{at}
 use Rattle.lists.proofs.Signed.{back}
 use Rattle.synthesis.specs.Inner.{weight}

@@ -1,5 +1,5 @@
 -- `Row::untested` meets its contract: after k taps the half is at most 32768 times the weight so far in size, so that no number lies outside.
-use lib.ListN.{length}
+use Rattle.std.proofs.Common.{length}
 use Rattle.synthesis.proofs.Taps.{Light}
 use Rattle.synthesis.proofs.row.Row.untested.Given as goal
 

@@ -1,10 +1,7 @@
--- A subframe of the definition beside the machine of whole numbers. Assumes nothing.
-use Prim.Native.Nat.{ℕ, zero, suc, ◌-◌}
-use mathlib.Core.Path.{◌≡◌, refl, sym, ap, ◌∙◌, fun_ext, subst}
-use mathlib.Core.Bool.{Bool, true, false}
-use mathlib.Core.List.{List, [], ◌∷◌, map}
-use lib.IntN.{ℤ, *ℤ_comm}
-use lib.ListN.{length, drop}
+-- A subframe of the definition beside the machine of whole numbers.
+use Rattle.std.proofs.Common.{ℕ, zero, suc, ◌-◌, ◌≡◌, refl, sym, ap, ◌∙◌, subst, Bool, true, false, List, [], ◌∷◌, map, ℤ, length, drop}
+use mathlib.Core.Path.{fun_ext}
+use lib.IntN.{*ℤ_comm}
 use Rattle.lists.specs.Lists.{at, Every}
 use Rattle.basicop.specs.Ops.{clamp, l_mult, l_sub, l_add, l_shl}
 use Rattle.synthesis.specs.Recursion.{recursion}
@@ -18,8 +15,8 @@ use Rattle.decoder.specs.Subframe.{SynthesisInput, SynthesisResult, synthesis_re
 use Rattle.decoder.specs.Core.{SubframeResult, subframe_result, subframe_results, core_after, row_list, opened_core, core_result}
 use Rattle.decoder.proofs.Retry.{retry}
 use Rattle.decoder.proofs.Results.{Held, subframe_facts}
-use Rattle.demand3.specs.Measure.{Machine, held_sum, held_sample, held_samples, measurement, machine_after_subframe, machine_after_subframes}
-use Rattle.demand3.specs.Demand3.{AsMeasured, SubframesAsMeasured}
+use Rattle.measure.specs.Machine.{Machine, held_sum, held_sample, held_samples, measurement, machine_after_subframe, machine_after_subframes}
+use Rattle.measure.specs.CallList.{AsMeasured, SubframesAsMeasured}
 
 -- ---- the machine's clamped steps are those of Syn_filt
 held_sum_lem : (a : List ℤ) (x : ℤ) (y : List ℤ) (k : ℕ) → held_sum a x y k ≡ acc a x y k

@@ -1,4 +1,4 @@
--- Demand 3: a single claim about a list of frame calls, from an opening state. The theorem is `demand_3` in proofs/Demand3.antt.
+-- Demand 3: a single claim about a list of frame calls, from an opening state. The theorem is `every_list_as_measured` in proofs/CallList.antt.
 use Rattle.std.specs.Prelude.{◌≡◌, Ok, true, false, List, [], ◌∷◌, map, ◌≤◌, ℤ, pos, negsuc, length, ◌≤ℤ◌}
 use Rattle.lists.specs.Lists.{Every}
 use Rattle.basicop.specs.Ops.{Quotient}
@@ -9,7 +9,7 @@ use Rattle.state.specs.declared.State.{State}
 use Rattle.state.specs.State.{WellFormed, state_outcome}
 use Rattle.mr74.specs.Frame.{Trace}
 use Rattle.calls.specs.Calls.{Call, trace_of, next_state, run_calls, state_after, accepted, any_accepted, latest_place}
-use Rattle.demand3.specs.Measure.{Machine, held_samples, quarters, takes_in, machine_after_subframe, machine_after_subframes}
+use Rattle.measure.specs.Machine.{Machine, held_samples, quarters, takes_in, machine_after_subframe, machine_after_subframes}
 
 -- from .. to
 abbrev pub In : ℤ → ℤ → ℤ → Type 0
@@ -82,7 +82,7 @@ EachCall s m (c ∷ cs) =
     (accepted t ≡ true → AcceptedCall t m) × ((accepted t ≡ false → RefusedCall s t m) × EachCall (next_state s c) (machine_after_call m t) cs)
 
 -- ---- the claim
-pub record Demand3 (s : State) (cs : List Call) : Type 0 where
+pub record ListAsMeasured (s : State) (cs : List Call) : Type 0 where
   -- "once a call was accepted, the state after the list has sharpening in 0..=13017, smoothed gain in 0..=32765,"
   pub sharpening : any_accepted (run_calls s cs) ≡ true → In (pos 0) (pos 13017) (state_after s cs).core.sharpening.0
   pub gain : any_accepted (run_calls s cs) ≡ true → In (pos 0) (pos 32765) (state_after s cs).post.gain.previous_gain
@@ -93,7 +93,7 @@ pub record Demand3 (s : State) (cs : List Call) : Type 0 where
   pub calls : EachCall s (opening s) cs
 
 -- from any accepted state, for every list of calls, refused ones included, of any sheets and outputs, the empty list too
--- "accepted" is the demand's own word, and stands here for the reader: the proof does not need it (`demand_3_any` has the claim without it), since from
+-- "accepted" is the demand's own word, and stands here for the reader: the proof does not need it (`list_as_measured` has the claim without it), since from
 -- a state that is turned back no call is accepted
-abbrev pub Demand3Holds : Type 0
-Demand3Holds = (s : State) → WellFormed s → state_outcome s ≡ Ok tt → (cs : List Call) → Demand3 s cs
+abbrev pub EveryListAsMeasured : Type 0
+EveryListAsMeasured = (s : State) → WellFormed s → state_outcome s ≡ Ok tt → (cs : List Call) → ListAsMeasured s cs

@@ -1,9 +1,5 @@
--- One call beside the machine of whole numbers. Assumes nothing.
-use Prim.Native.Nat.{ℕ, ◌≤◌}
-use mathlib.Core.Path.{◌≡◌, refl, sym, subst}
-use mathlib.Core.Bool.{true, false}
-use lib.Dec.{lit≤}
-use lib.IntN.{pos}
+-- One call beside the machine of whole numbers.
+use Rattle.std.proofs.Common.{ℕ, ◌≤◌, ◌≡◌, refl, sym, subst, true, false, lit≤, pos}
 use Rattle.lists.proofs.Entries.{every_map}
 use Rattle.basicop.specs.Ops.{Quotient}
 use Rattle.basicop.specs.Divided.{Divides}
@@ -18,9 +14,9 @@ use Rattle.mr74.proofs.Usable.{UsablePrepared}
 use Rattle.calls.specs.Calls.{Call, trace_of, next_state, accepted}
 use Rattle.calls.proofs.Frames.{held, frame_facts, frame_divisors}
 use Rattle.calls.proofs.Calls.{decided, accepts, refuses}
-use Rattle.demand3.specs.Measure.{Machine, machine_after_subframes}
-use Rattle.demand3.specs.Demand3.{opening, machine_after_call, AcceptedCall, RefusedCall}
-use Rattle.demand3.proofs.Machine.{core_beside, core_machine}
+use Rattle.measure.specs.Machine.{Machine, machine_after_subframes}
+use Rattle.measure.specs.CallList.{opening, machine_after_call, AcceptedCall, RefusedCall}
+use Rattle.measure.proofs.Machine.{core_beside, core_machine}
 
 not_zero : (n : ℕ) → 1 ≤ n → (q : Quotient) → Divides n q → ¬ (q.divisor ≡ pos 0)
 not_zero n h q d e = omega (arith_ℤ, d.from, e)

@@ -1,5 +1,5 @@
--- Demand 3 applied: what `demand_3` gives of the list `calls` from the state `silent`. Nothing here is said by a statement of demand3/specs/Demand3.antt:
--- each of its clauses is written out, with its premise met. The theorems are in proofs/Demand3.antt.
+-- Demand 3 applied: what `every_list_as_measured` gives of the list `calls` from the state `silent`. Nothing here is said by a statement of measure/specs/CallList.antt:
+-- each of its clauses is written out, with its premise met. The theorems are in proofs/CallList.antt.
 use Rattle.std.specs.Prelude.{◌≡◌, true, false, [], ◌∷◌, map, ℕ, ◌≤◌, ℤ, pos, negsuc, length, ◌≤ℤ◌}
 use Rattle.lists.specs.Lists.{at, Every}
 use Rattle.basicop.specs.Ops.{Quotient}
@@ -9,7 +9,7 @@ use Rattle.decoder.specs.Core.{SubframeResult}
 use Rattle.state.specs.declared.State.{State}
 use Rattle.mr74.specs.Frame.{Trace}
 use Rattle.calls.specs.Calls.{Call, trace_of, next_state, state_after, accepted}
-use Rattle.demand3.specs.Measure.{Machine, held_samples, quarters, takes_in, machine_after_subframe, machine_after_subframes}
+use Rattle.measure.specs.Machine.{Machine, held_samples, quarters, takes_in, machine_after_subframe, machine_after_subframes}
 use Rattle.applied.specs.Examples.{silent, call, empty_call, calls}
 
 -- ---- the two calls, and the machine of whole numbers beside them

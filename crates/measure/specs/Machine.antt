@@ -2,7 +2,7 @@
 -- how samples follow one another (`recursion`) it shares with it.
 -- Its unclamped steps are synthesis/specs/Whole.antt.
 -- a: the row a0..a10; x: x(n); y: the samples before y(n), the last of them y(n - 1).
-use Rattle.std.specs.Prelude.{ℕ, zero, suc, cond, List, [], ◌∷◌, ◌++◌, map, ℤ, pos, ◌+ℤ◌, ◌-ℤ◌, ◌*ℤ◌, drop}
+use Rattle.std.specs.Prelude.{ℕ, zero, suc, if◌then◌else◌, List, [], ◌∷◌, ◌++◌, map, ℤ, pos, ◌+ℤ◌, ◌-ℤ◌, ◌*ℤ◌, drop}
 use Rattle.std.specs.Int.Signed.{lt_z}
 use Rattle.std.specs.Int.{w32}
 use Rattle.lists.specs.Lists.{at}
@@ -14,7 +14,7 @@ use Rattle.decoder.specs.Subframe.{SynthesisInput}
 -- ---- "the same 23 steps, each clamped"
 -- held to the range of 32 bits
 abbrev pub held : ℤ → ℤ
-held z = cond (lt_z z (least w32)) (least w32) (cond (lt_z (most w32) z) (most w32) z)
+held z = if lt_z z (least w32) then least w32 else if lt_z (most w32) z then most w32 else z
 
 unfoldable pub held_sum : List ℤ → ℤ → List ℤ → ℕ → ℤ
 held_sum a x y zero = held (pos 2 *ℤ (at a 0 *ℤ x))
@@ -61,7 +61,7 @@ retried_measurement f m =
 
 -- "The subframe is retried if any of the 40 × 23 lies outside the signed 32-bit range"
 unfoldable pub measurement : SynthesisInput → Machine → Measurement
-measurement f m = cond (retried 10 f.row f.excitation m.history) (retried_measurement f m) (unretried_measurement f m)
+measurement f m = if retried 10 f.row f.excitation m.history then retried_measurement f m else unretried_measurement f m
 
 -- "the last ten samples are the next history"
 abbrev pub machine_after_subframe : SynthesisInput → Machine → Machine

@@ -1,12 +1,6 @@
--- `demand_3` at the two calls of specs/Examples.antt: its premises are the fields of `example`, and each conclusion is a field of it, so that a field that
--- says less, or a premise that asks more, is refused here. The call stays shut: nothing is computed. Assumes nothing.
-use mathlib.Core.Path.{◌≡◌, refl, sym, ap, ◌∙◌, subst}
-use mathlib.Core.Bool.{true, false}
-use mathlib.Core.List.{List, [], ◌∷◌, map}
-use Prim.Native.Nat.{ℕ}
-use native.Mathlib.Omega.{arith}
-use lib.IntN.{ℤ}
-use lib.ListN.{length, get_or}
+-- `every_list_as_measured` at the two calls of specs/Examples.antt: its premises are the fields of `example`, and each conclusion is a field of it, so that a field that
+-- says less, or a premise that asks more, is refused here. The call stays shut: nothing is computed.
+use Rattle.std.proofs.Common.{◌≡◌, refl, sym, ap, ◌∙◌, subst, true, false, List, [], ◌∷◌, map, ℕ, arith, ℤ, length, get_or}
 use Rattle.lists.specs.Lists.{at}
 use Rattle.decoder.specs.Subframe.{flag_of}
 use Rattle.decoder.specs.Core.{SubframeResult, places_of}
@@ -15,15 +9,15 @@ use Rattle.state.specs.declared.State.{State}
 use Rattle.std.specs.Prelude.{Ok}
 use Rattle.state.specs.State.{WellFormed, state_outcome}
 use Rattle.calls.specs.Calls.{Call, trace_of, next_state, run_calls, state_after, accepted, any_accepted}
-use Rattle.demand3.specs.Measure.{Machine, held_samples}
-use Rattle.demand3.specs.Demand3.{AsMeasured, SubframesAsMeasured, AcceptedCall, RefusedCall, Demand3}
-use Rattle.demand3.proofs.Demand3.{demand_3}
+use Rattle.measure.specs.Machine.{Machine, held_samples}
+use Rattle.measure.specs.CallList.{AsMeasured, SubframesAsMeasured, AcceptedCall, RefusedCall, ListAsMeasured}
+use Rattle.measure.proofs.CallList.{every_list_as_measured}
 use Rattle.applied.specs.Examples.{silent, calls, Seen, expected}
-use Rattle.applied.specs.Demand3.{first, second, opened, after_call, last, AfterList, Lengths, Placed, Retried, Unretried, Subframes, FirstCall, SecondCall, TwoCalls}
+use Rattle.applied.specs.CallList.{first, second, opened, after_call, last, AfterList, Lengths, Placed, Retried, Unretried, Subframes, FirstCall, SecondCall, TwoCalls}
 use Rattle.applied.proofs.Examples.{example, refused_trace_lem}
 
-theorem : Demand3 silent calls
-theorem = demand_3 silent example.well_formed example.state calls
+theorem : ListAsMeasured silent calls
+theorem = every_list_as_measured silent example.well_formed example.state calls
 
 -- ---- the calls, by what `example` and `refused_trace_lem` say of them
 accepted_first : AcceptedCall first opened
@@ -142,7 +136,7 @@ first_call =
 pub two_calls : (s : State) → WellFormed s → state_outcome s ≡ Ok tt → (c d : Call) (cs : List Call) → accepted (trace_of s c) ≡ true → accepted (trace_of (next_state s c) d) ≡ false → TwoCalls s c d (state_after s (c ∷ d ∷ cs))
 unfolding run_calls any_accepted
 two_calls s w h c d cs y n =
-    let t = demand_3 s w h (c ∷ d ∷ cs) in
+    let t = every_list_as_measured s w h (c ∷ d ∷ cs) in
     let a = t.calls.0 y in
     let r = t.calls.1.1.1.0 n in
     let any : any_accepted (run_calls s (c ∷ d ∷ cs)) ≡ true = rw y refl in

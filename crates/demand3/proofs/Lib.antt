@@ -1,4 +1,0 @@
--- Machine: a subframe, and the core of a frame, beside the machine of whole numbers. Calls: one call. Demand3: the theorem.
-pub mod Machine
-pub mod Calls
-pub mod Demand3

@@ -1,2 +1,0 @@
-pub mod Measure
-pub mod Demand3

@@ -1,0 +1,2 @@
+pub mod Machine
+pub mod CallList
