@@ -33,6 +33,13 @@ pub struct Q14(pub i16);
 #[derive(Clone, Copy)]
 pub struct Q1(pub i16);
 
+// Pitch gain and code gain of a subframe.
+#[derive(Clone, Copy)]
+pub struct Gains {
+    pub pitch: Q14,
+    pub code: Q1,
+}
+
 // The innovation of a subframe, forty numbers.
 #[derive(Clone, Copy)]
 pub struct Q13(pub [i16; 40]);

@@ -9,10 +9,10 @@ ghost use Rattle.coding.specs.Body.{missing};
 
 mod numbers;
 
-use basicop::{Q1, Q14};
+use basicop::{Gains, Q1, Q14};
 use decoder::Core;
 use energy::GainControl;
-use gain_concealment::{GainConcealment, GainPair};
+use gain_concealment::GainConcealment;
 pub use numbers::{numbers_in, put, unsigned, word};
 use postfilter::Postfilter;
 use state::{
@@ -34,7 +34,7 @@ pub const BODY_BYTES: usize = SIGNAL_BYTES + CONCEALMENT_BYTES;
 // What a version 1 body has not, from field 197 on: last lag 40, the opening lag, and zeros.
 const OPENING_LAG: i16 = 40;
 
-const NO_GAINS: GainPair = GainPair {
+const NO_GAINS: Gains = Gains {
     pitch: Q14(0),
     code: Q1(0),
 };
@@ -99,12 +99,12 @@ pub fn write_post(post: Postfilter, out: &mut [u8; POST_BYTES])
 }
 
 // A pair of gains of its bytes, pitch first.
-fn pair_in(bytes: &[u8]) -> GainPair
+fn pair_in(bytes: &[u8]) -> Gains
     requires { length bytes.now ≡ 4 }
     ensures { result ≡ pair_from (words bytes.now) }
 {
     let [pitch, code]: [i16; PAIR] = numbers_in(bytes);
-    GainPair {
+    Gains {
         pitch: Q14(pitch),
         code: Q1(code),
     }

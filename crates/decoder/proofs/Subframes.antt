@@ -20,7 +20,7 @@ use Rattle.decoder.specs.Enhance.{first_excitation}
 use Rattle.decoder.specs.Subframe.{SynthesisInput, synthesis_result, synthesis_output}
 use Rattle.decoder.specs.Core.{excitations, subframe_result, subframe_output, subframe_results, core_result, core_output}
 
-pub excitations_are : (past : List ℤ) (sharp : ℤ) (p : Parameters) {v code exc x : List ℤ} → v ≡ predicted past (lag_of p.lag) → code ≡ sharpened p.innovation.0 (pos p.lag.samples) sharp → exc ≡ feedback v p.pitch.0 code p.code.0 → x ≡ (first_excitation v p.pitch.0 exc).value → ◌≡◌ {A = Excitations} (record { feedback = exc; excitation = x }) (excitations past sharp (subframe_of p)).value
+pub excitations_are : (past : List ℤ) (sharp : ℤ) (p : Parameters) {v code exc x : List ℤ} → v ≡ predicted past (lag_of p.lag) → code ≡ sharpened p.innovation.0 (pos p.lag.samples) sharp → exc ≡ feedback v p.gains.pitch.0 code p.gains.code.0 → x ≡ (first_excitation v p.gains.pitch.0 exc).value → ◌≡◌ {A = Excitations} (record { feedback = exc; excitation = x }) (excitations past sharp (subframe_of p)).value
 unfolding excitations
 excitations_are past sharp p ev ec ee ex = rw (ex, ee, ec, ev)
 
@@ -28,7 +28,7 @@ module _ (c : Core) (row : List ℤ) (p : Parameters) where
   abbrev input_of : Excitations → SynthesisInput
   input_of e = record { row = row; feedback = e.feedback; excitation = e.excitation }
 
-  pub subframe_is : {e : Excitations} {s : SynthesisOutput} {g : ℤ} {h : List ℤ} → e ≡ (excitations c.past c.sharpening.0 (subframe_of p)).value → s ≡ synthesis_output (synthesis_result (input_of e) c.history c.past) → g ≡ sharpening p.pitch.0 → h ≡ newest 10 s.samples → ◌≡◌ {A = SubframeOutput} (record { place = s.place; samples = s.samples; next = record { lsp = c.lsp; past = s.past; sharpening = record { 0 = g }; history = h } }) (subframe_output (subframe_result c row (subframe_of p)))
+  pub subframe_is : {e : Excitations} {s : SynthesisOutput} {g : ℤ} {h : List ℤ} → e ≡ (excitations c.past c.sharpening.0 (subframe_of p)).value → s ≡ synthesis_output (synthesis_result (input_of e) c.history c.past) → g ≡ sharpening p.gains.pitch.0 → h ≡ newest 10 s.samples → ◌≡◌ {A = SubframeOutput} (record { place = s.place; samples = s.samples; next = record { lsp = c.lsp; past = s.past; sharpening = record { 0 = g }; history = h } }) (subframe_output (subframe_result c row (subframe_of p)))
   unfolding subframe_result
   subframe_is ee es eg eh = rw (eh, es, ee, eg)
 

@@ -20,7 +20,7 @@ pub record FrameInputs : Type 0 where
 
 -- ---- the code's
 abbrev pub subframe_of : Parameters → SubframeInputs
-subframe_of p = record { lag = lag_of p.lag; pitch = p.pitch.0; code = p.code.0; innovation = p.innovation.0 }
+subframe_of p = record { lag = lag_of p.lag; pitch = p.gains.pitch.0; code = p.gains.code.0; innovation = p.innovation.0 }
 
 abbrev pub inputs_of : Inputs → FrameInputs
 inputs_of i = record { lsfs = i.lsfs; subframes = subframe_of i.a ∷ subframe_of i.b ∷ subframe_of i.c ∷ subframe_of i.d ∷ [] }

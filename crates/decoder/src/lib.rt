@@ -1,7 +1,7 @@
 // The core of a frame: everything up to the synthesis samples.
 #![tactic(auto)]
 
-ghost use Rattle.std.specs.Prelude.{◌≤◌, pos, ◌≤ℤ◌};
+ghost use Rattle.std.specs.Prelude.{◌≤◌};
 ghost use Rattle.spectral.specs.Lsp.{Frequencies};
 ghost use Rattle.spectral.proofs.Frequencies.{frequencies_prop};
 
@@ -9,7 +9,7 @@ mod enhancement;
 mod frame;
 mod subframe;
 
-use basicop::{Q1, Q13, Q14};
+use basicop::{Gains, Q13, Q14};
 pub use frame::decode;
 use lpc::Rows;
 use pitch::PitchLag;
@@ -26,15 +26,13 @@ pub struct Core {
     pub history: [i16; 10],
 }
 
-// What a subframe is decoded from. The checks of a call show that the lag lies in 19..=144 and that the pitch gain is not negative.
+// What a subframe is decoded from. The checks of a call show that the lag lies in 19..=144.
 #[derive(Clone, Copy)]
 pub struct Parameters {
     pub lag: PitchLag,
-    pub pitch: Q14,
-    pub code: Q1,
+    pub gains: Gains,
     pub innovation: Q13,
     pub ghost lawful: { (19 ≤ lag.samples) × (lag.samples ≤ 144) },
-    pub ghost gain: { pos 0 ≤ℤ pitch.0 },
 }
 
 // What a frame is decoded from: ten LSFs, each in 0..=16384, and four subframes.

@@ -46,8 +46,8 @@ fn excite(past: [i16; 154], sharpening: Q14, p: Parameters) -> Excitations
 {
     let adaptive = adaptive::predict(past, p.lag);
     let code = excitation::sharpen(p.innovation, p.lag.samples as usize, sharpening);
-    let feedback = excitation::feedback(adaptive, code, p.pitch, p.code);
-    let excitation = first_excitation(adaptive, p.pitch, feedback);
+    let feedback = excitation::feedback(adaptive, code, p.gains.pitch, p.gains.code);
+    let excitation = first_excitation(adaptive, p.gains.pitch, feedback);
     Excitations {
         feedback,
         excitation,
@@ -69,7 +69,7 @@ pub fn decode_subframe(core: &Core, row: [i16; 11], p: Parameters) -> SubframeOu
         past,
         ..
     } = synthesise(row, feedback, excitation, core.history, core.past);
-    let sharpening = excitation::next_sharpening(p.pitch);
+    let sharpening = excitation::next_sharpening(p.gains.pitch);
     let history = synthesis::newest(samples);
     SubframeOutput {
         place,

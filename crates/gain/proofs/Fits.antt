@@ -11,11 +11,11 @@ l_shr_fits : (x n : ℤ) → SFits w32 x → SFits w32 (l_shr x n)
 l_shr_fits x (pos n) f = asr_same w32 x n f
 l_shr_fits x (negsuc n) f = l_shl_fits x (pos _) f
 
-pub pitch_fits : (logs pows : List ℤ) (index : ℤ) (innovation energies : List ℤ) → pos 0 ≤ℤ index → index ≤ℤ pos 127 → SFits w16 (decoded_gains logs pows index innovation energies).pitch.0
+pub pitch_fits : (logs pows : List ℤ) (index : ℤ) (innovation energies : List ℤ) → pos 0 ≤ℤ index → index ≤ℤ pos 127 → SFits w16 (decoded_gains logs pows index innovation energies).gains.pitch.0
 unfolding decoded_gains
 pitch_fits logs pows (pos n) innovation energies h l = let r = (row_ranges n (omega arith_ℤ)).pitch in sfits_by (omega (arith_ℤ, r.0, r.1))
 pitch_fits logs pows (negsuc n) innovation energies h l = absurd h.le
 
-pub code_fits : (logs pows : List ℤ) (index : ℤ) (innovation energies : List ℤ) → SFits w16 (decoded_gains logs pows index innovation energies).code.0
+pub code_fits : (logs pows : List ℤ) (index : ℤ) (innovation energies : List ℤ) → SFits w16 (decoded_gains logs pows index innovation energies).gains.code.0
 unfolding decoded_gains code_gain
 code_fits logs pows index innovation energies = extract_h_fits _ (l_shr_fits _ _ (l_mult_fits _ _))

@@ -9,18 +9,22 @@ use Rattle.outcome.proofs.Variants.{never_accepted}
 use Rattle.logarithm.specs.declared.Logarithm.{Logarithm}
 use Rattle.gain_table.specs.Rows.{gain_row}
 use Rattle.gain.specs.declared.GainDecoder.{GainDecoder}
+use Rattle.gain.specs.declared.DecodedGains.{DecodedGains}
 use Rattle.gain.specs.Gain.{predicted_gain, code_gain, entered, decoded_gains}
 use Rattle.gain.specs.Call.{decode_checks, no_gains, gain_call}
 
-pub gains_made : (logs pows : List ℤ) (index : ℤ) (innovation energies : List ℤ) {row : List ℤ} {predicted : Logarithm} {code : Q1} {next : GainDecoder} → row ≡ gain_row index → predicted ≡ predicted_gain logs innovation energies → code.0 ≡ code_gain pows (at row 1) predicted → next.energies ≡ entered (at row 2) energies → record { pitch = record { 0 = at row 0 }; code = code; next = next } ≡ decoded_gains logs pows index innovation energies
+pub gains_made : (logs pows : List ℤ) (index : ℤ) (innovation energies : List ℤ) {row : List ℤ} {predicted : Logarithm} {code : Q1} {next : GainDecoder} → row ≡ gain_row index → predicted ≡ predicted_gain logs innovation energies → code.0 ≡ code_gain pows (at row 1) predicted → next.energies ≡ entered (at row 2) energies → record { gains = record { pitch = record { 0 = at row 0 }; code = code }; gain_decoder = next } ≡ decoded_gains logs pows index innovation energies
 unfolding decoded_gains
 gains_made logs pows index innovation energies r p c n = rw (← r, ← p, ← c, ← n) refl
 
 module _ (logs pows : List ℤ) (index : ℤ) (innovation energies : List ℤ) where
-  pub call_accepted : first_met (decode_checks logs pows index) ≡ Ok tt → record { outcome = Ok tt; gains = decoded_gains logs pows index innovation energies } ≡ gain_call logs pows index innovation energies
+  abbrev decoded : DecodedGains
+  decoded = decoded_gains logs pows index innovation energies
+
+  pub call_accepted : first_met (decode_checks logs pows index) ≡ Ok tt → record { outcome = Ok tt; gains = decoded.gains; gain_decoder = decoded.gain_decoder } ≡ gain_call logs pows index innovation energies
   unfolding gain_call
   call_accepted e = rw e
 
-  pub call_refused : {r : Refusal} → first_met (decode_checks logs pows index) ≡ Err r → record { outcome = Err r; gains = no_gains energies } ≡ gain_call logs pows index innovation energies
+  pub call_refused : {r : Refusal} → first_met (decode_checks logs pows index) ≡ Err r → record { outcome = Err r; gains = (no_gains energies).gains; gain_decoder = (no_gains energies).gain_decoder } ≡ gain_call logs pows index innovation energies
   unfolding gain_call
   call_refused {r} e = rw (e, never_accepted r)

@@ -48,12 +48,12 @@ code_gain_from pows r correction predicted c h l =
     (shifted_from _ (pos 16) (shifted_from _ (sub (pos 10) predicted.exponent) (product_from correction _ c p.0)))
 
 -- ---- both gains of an index of the table
-pub pitch_from : (logs pows : List ℤ) (index : ℤ) (innovation energies : List ℤ) → pos 0 ≤ℤ index → index ≤ℤ pos 127 → pos 0 ≤ℤ (decoded_gains logs pows index innovation energies).pitch.0
+pub pitch_from : (logs pows : List ℤ) (index : ℤ) (innovation energies : List ℤ) → pos 0 ≤ℤ index → index ≤ℤ pos 127 → pos 0 ≤ℤ (decoded_gains logs pows index innovation energies).gains.pitch.0
 unfolding decoded_gains
 pitch_from logs pows (pos index) innovation energies h l = ≤ℤ_trans (le_z_yes tt) (row_ranges index (omega arith_ℤ)).pitch.0
 pitch_from logs pows (negsuc n) innovation energies h l = absurd h.le
 
-pub code_from : (logs pows : List ℤ) (index : ℤ) (innovation energies : List ℤ) → TableKept pows → pos 0 ≤ℤ index → index ≤ℤ pos 127 → pos 0 ≤ℤ (decoded_gains logs pows index innovation energies).code.0
+pub code_from : (logs pows : List ℤ) (index : ℤ) (innovation energies : List ℤ) → TableKept pows → pos 0 ≤ℤ index → index ≤ℤ pos 127 → pos 0 ≤ℤ (decoded_gains logs pows index innovation energies).gains.code.0
 unfolding decoded_gains
 code_from logs pows (pos index) innovation energies t h l =
     let f = fraction_in logs innovation energies in

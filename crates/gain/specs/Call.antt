@@ -3,7 +3,7 @@ use Rattle.std.specs.Prelude.{◌≡◌, true, if◌then◌else◌, List, [], �
 use Rattle.lists.specs.Lists.{minus}
 use Rattle.outcome.specs.Outcome.{is_accepted}
 use Rattle.outcome.specs.Checks.{Check, first_met}
-use Rattle.gain.specs.declared.Gains.{Gains}
+use Rattle.gain.specs.declared.DecodedGains.{DecodedGains}
 use Rattle.gain.specs.declared.GainAnswer.{GainAnswer}
 use Rattle.gain.specs.Gain.{decoded_gains}
 use Rattle.gain.specs.Checks.{table_checks, index_checks}
@@ -17,13 +17,14 @@ abbrev pub decode_checks : List ℤ → List ℤ → ℤ → List Check
 decode_checks logs pows index = table_checks logs pows ++ index_checks 1 (index ∷ [])
 
 -- refused: gains 0 and 0, the energies as they came
-abbrev pub no_gains : List ℤ → Gains
-no_gains energies = record { pitch = record { 0 = pos 0 }; code = record { 0 = pos 0 }; next = record { energies = energies } }
+abbrev pub no_gains : List ℤ → DecodedGains
+no_gains energies = record { gains = record { pitch = record { 0 = pos 0 }; code = record { 0 = pos 0 } }; gain_decoder = record { energies = energies } }
 
 unfoldable pub gain_call : List ℤ → List ℤ → ℤ → List ℤ → List ℤ → GainAnswer
 gain_call logs pows index innovation energies =
     let o = first_met (decode_checks logs pows index) in
-    record { outcome = o; gains = if is_accepted o then decoded_gains logs pows index innovation energies else no_gains energies }
+    let d = if is_accepted o then decoded_gains logs pows index innovation energies else no_gains energies in
+    record { outcome = o; gains = d.gains; gain_decoder = d.gain_decoder }
 
 -- ---- "from it the code gain is never negative": of any index, innovation and energies, where the tables are accepted. The theorem is `never_negative` in
 -- proofs/Signs.antt

@@ -10,7 +10,7 @@ use Rattle.logarithm.specs.declared.Logarithm.{Logarithm}
 use Rattle.logarithm.specs.Log2.{log2}
 use Rattle.logarithm.specs.Pow2.{pow2}
 use Rattle.gain_table.specs.Rows.{gain_row}
-use Rattle.gain.specs.declared.Gains.{Gains}
+use Rattle.gain.specs.declared.DecodedGains.{DecodedGains}
 
 -- ---- gc_pred: the logarithm of the code gain that the past energies predict
 -- pred: the predictor's coefficients (Q13), the newest energy's first
@@ -44,13 +44,12 @@ abbrev pub entered : ℤ → List ℤ → List ℤ
 entered energy energies = energy ∷ take 3 energies
 
 -- of an index: pitch gain (Q14) and code gain (Q1), and the past energies after the subframe
-unfoldable pub decoded_gains : List ℤ → List ℤ → ℤ → List ℤ → List ℤ → Gains
+unfoldable pub decoded_gains : List ℤ → List ℤ → ℤ → List ℤ → List ℤ → DecodedGains
 decoded_gains logs pows index innovation energies =
     let row = gain_row index in
     record {
-      pitch = record { 0 = at row 0 };
-      code = record { 0 = code_gain pows (at row 1) (predicted_gain logs innovation energies) };
-      next = record { energies = entered (at row 2) energies };
+      gains = record { pitch = record { 0 = at row 0 }; code = record { 0 = code_gain pows (at row 1) (predicted_gain logs innovation energies) } };
+      gain_decoder = record { energies = entered (at row 2) energies };
     }
 
 -- ---- an erased frame

@@ -8,7 +8,7 @@ ghost use Rattle.gain.specs.Call.{opening_energies, gain_call};
 mod checks;
 mod prediction;
 
-use basicop::{Q1, Q10, Q12, Q13, Q14, add, mult};
+use basicop::{Gains, Q1, Q10, Q12, Q13, Q14, add, mult};
 use checks::check_decode;
 pub use checks::{Tables, check_indices, check_tables};
 use gain_table::gain_row;
@@ -23,10 +23,9 @@ pub struct GainDecoder {
 
 // The gains of a subframe, and the decoder after it.
 #[derive(Clone, Copy)]
-pub struct Gains {
-    pub pitch: Q14,
-    pub code: Q1,
-    pub next: GainDecoder,
+pub struct DecodedGains {
+    pub gains: Gains,
+    pub gain_decoder: GainDecoder,
 }
 
 // What the call of an index gives.
@@ -34,6 +33,7 @@ pub struct Gains {
 pub struct GainAnswer {
     pub outcome: Outcome,
     pub gains: Gains,
+    pub gain_decoder: GainDecoder,
 }
 
 // A decoder that has decoded nothing.
@@ -76,16 +76,18 @@ impl GainDecoder {
     }
 
     // Dec_gain, of an index and tables that their checks have accepted. The innovation is sharpened.
-    pub fn decode_gains(self, index: usize, innovation: Q13, tables: Tables) -> Gains
+    pub fn decode_gains(self, index: usize, innovation: Q13, tables: Tables) -> DecodedGains
         requires { index < 128 }
         ensures { result ≡ decoded_gains tables.entry.logs.now tables.entry.pows.now (pos index) innovation.0 self.energies }
     {
         let [pitch, correction, energy] = gain_row(index);
         let predicted = predict(self.energies, innovation, tables.logs);
-        Gains {
-            pitch: Q14(pitch),
-            code: code_gain(Q12(correction), predicted, tables.pows),
-            next: self.enter(Q10(energy)),
+        DecodedGains {
+            gains: Gains {
+                pitch: Q14(pitch),
+                code: code_gain(Q12(correction), predicted, tables.pows),
+            },
+            gain_decoder: self.enter(Q10(energy)),
         }
     }
 
@@ -101,17 +103,24 @@ impl GainDecoder {
         ensures { result ≡ gain_call log_table.now pow_table.now index innovation.0 self.energies }
     {
         match check_decode(index, log_table, pow_table) {
-            Ok(tables) => GainAnswer {
-                outcome: Ok(()),
-                gains: self.decode_gains(index as usize, innovation, tables),
-            },
+            Ok(tables) => {
+                let DecodedGains {
+                    gains,
+                    gain_decoder,
+                } = self.decode_gains(index as usize, innovation, tables);
+                GainAnswer {
+                    outcome: Ok(()),
+                    gains,
+                    gain_decoder,
+                }
+            }
             Err(refusal) => GainAnswer {
                 outcome: Err(refusal),
                 gains: Gains {
                     pitch: Q14(0),
                     code: Q1(0),
-                    next: self,
                 },
+                gain_decoder: self,
             },
         }
     }

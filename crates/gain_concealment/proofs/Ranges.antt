@@ -7,7 +7,7 @@ use Rattle.basicop.specs.Ops.{mult}
 use Rattle.basicop.proofs.Ints.{arith_ℤ}
 use Rattle.basicop.proofs.Naturals.{mult_pos}
 use Rattle.basicop.proofs.Tests.{less_no}
-use Rattle.gain_concealment.specs.declared.GainPair.{GainPair}
+use Rattle.basicop.specs.declared.Gains.{Gains}
 use Rattle.gain_concealment.specs.declared.GainConcealment.{GainConcealment}
 use Rattle.gain_concealment.specs.Median.{inserted, sorted, median}
 use Rattle.gain_concealment.specs.Concealment.{pdown, cdown, held_to, concealed_gain, taking_in, updated, concealed_gains, held_pair, good_gains}
@@ -70,7 +70,7 @@ before_scaling past history p h = held_either NonNeg past (median history) p (me
 taking_kept : (g : ℤ) (xs : List ℤ) → NonNeg g → Every NonNeg xs → Every NonNeg (taking_in g xs)
 taking_kept g xs p h = every_append NonNeg (drop 1 xs) (g ∷ []) (every_drop NonNeg xs h) (p, tt)
 
-updated_kept : (gains : GainPair) (c : GainConcealment) → NotNegative gains → Kept c → Kept (updated gains c)
+updated_kept : (gains : Gains) (c : GainConcealment) → NotNegative gains → Kept c → Kept (updated gains c)
 unfolding updated
 updated_kept gains c n k =
     let pitch = held_either NonNeg (pos 16384) gains.pitch.0 (le_z_yes tt) n.pitch in
@@ -110,7 +110,7 @@ concealed_in_range stage c k p q =
     }
 
 -- ---- a good frame's
-good_next : (gains : GainPair) (c : GainConcealment) → NotNegative gains → Kept c → Used (good_gains false gains c)
+good_next : (gains : Gains) (c : GainConcealment) → NotNegative gains → Kept c → Used (good_gains false gains c)
 unfolding good_gains
 good_next gains c n k =
     let u = updated_kept gains c n k in

@@ -1,12 +1,12 @@
 -- Gains of erased frames, computed from the definition: four subframes in a row, other arrangements, the last stage, and zeros.
 use Rattle.std.proofs.Common.{◌≡◌, refl, List, [], ◌∷◌, ℕ, zero, suc, ℤ, pos}
 use Rattle.basicop.specs.Ops.{asr, clamp, mult}
-use Rattle.gain_concealment.specs.declared.GainPair.{GainPair}
+use Rattle.basicop.specs.declared.Gains.{Gains}
 use Rattle.gain_concealment.specs.declared.GainConcealment.{GainConcealment}
 use Rattle.gain_concealment.specs.Median.{inserted, sorted}
 use Rattle.gain_concealment.specs.Concealment.{updated, concealed_gains}
 
-abbrev pair : ℕ → ℕ → GainPair
+abbrev pair : ℕ → ℕ → Gains
 pair pitch code = record { pitch = record { 0 = pos pitch }; code = record { 0 = pos code } }
 
 -- five numbers, the oldest first
@@ -14,11 +14,11 @@ abbrev five : ℕ → ℕ → ℕ → ℕ → ℕ → List ℤ
 five a b c d e = pos a ∷ pos b ∷ pos c ∷ pos d ∷ pos e ∷ []
 
 -- the pitch gain's five, the code gain's five, the past gains
-abbrev kept : List ℤ → List ℤ → GainPair → GainConcealment
+abbrev kept : List ℤ → List ℤ → Gains → GainConcealment
 kept pitches codes past = record { pitch_history = pitches; code_history = codes; past = past; last_good = pair 0 0 }
 
 -- the gains of n erased subframes, one after another
-abbrev gains_of : ℕ → ℕ → GainConcealment → List GainPair
+abbrev gains_of : ℕ → ℕ → GainConcealment → List Gains
 gains_of zero stage c = []
 gains_of (suc n) stage c = let u = concealed_gains (pos stage) c in u.gains ∷ gains_of n stage u.next
 

@@ -4,7 +4,7 @@ use Rattle.basicop.specs.Ops.{mult}
 use Rattle.basicop.specs.Words.{Words}
 use Rattle.basicop.proofs.Clamp.{clamp_fits}
 use Rattle.basicop.proofs.Words.{words_one, words_append, words_drop}
-use Rattle.gain_concealment.specs.declared.GainPair.{GainPair}
+use Rattle.basicop.specs.declared.Gains.{Gains}
 use Rattle.gain_concealment.specs.declared.GainConcealment.{GainConcealment}
 use Rattle.gain_concealment.specs.declared.UsedGains.{UsedGains}
 use Rattle.gain_concealment.specs.Formed.{PairFormed, GainsFormed}
@@ -20,7 +20,7 @@ pub record WordsUsed (u : UsedGains) : Type 0 where
 words_taking : (g : ℤ) (xs : List ℤ) → SFits w16 g → Words 5 xs → Words 5 (taking_in g xs)
 words_taking g xs f w = words_append (drop 1 xs) (g ∷ []) (words_drop 1 xs w) (words_one g f)
 
-words_updated : (gains : GainPair) (c : GainConcealment) → PairFormed gains → GainsFormed c → GainsFormed (updated gains c)
+words_updated : (gains : Gains) (c : GainConcealment) → PairFormed gains → GainsFormed c → GainsFormed (updated gains c)
 unfolding updated
 words_updated gains c n k =
     let pitch = held_either (SFits w16) (pos 16384) gains.pitch.0 (record { sfits = lit< tt }) n.pitch in
@@ -42,13 +42,13 @@ concealed_words stage c k =
     let gains : PairFormed (concealed_gains stage c).gains = record { pitch = mult_fits _ _; code = mult_fits _ _ } in
     record { gains = gains; next = words_updated _ c gains k }
 
-words_next : (gains : GainPair) (c : GainConcealment) → PairFormed gains → GainsFormed c → WordsUsed (good_gains false gains c)
+words_next : (gains : Gains) (c : GainConcealment) → PairFormed gains → GainsFormed c → WordsUsed (good_gains false gains c)
 unfolding good_gains
 words_next gains c n k =
     let u = words_updated gains c n k in
     record { gains = n; next = record { pitch_history = u.pitch_history; code_history = u.code_history; past = u.past; last_good = n } }
 
-pub good_words : (erased : Bool) (gains : GainPair) (c : GainConcealment) → PairFormed gains → GainsFormed c → WordsUsed (good_gains erased gains c)
+pub good_words : (erased : Bool) (gains : Gains) (c : GainConcealment) → PairFormed gains → GainsFormed c → WordsUsed (good_gains erased gains c)
 unfolding good_gains
 good_words false gains c n k = words_next gains c n k
 good_words true gains c n k =

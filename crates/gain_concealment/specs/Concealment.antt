@@ -4,7 +4,7 @@ use Rattle.std.specs.Prelude.{Bool, if◌then◌else◌, List, [], ◌∷◌, �
 use Rattle.std.specs.Int.Signed.{lt_z}
 use Rattle.lists.specs.Lists.{entry}
 use Rattle.basicop.specs.Ops.{mult}
-use Rattle.gain_concealment.specs.declared.GainPair.{GainPair}
+use Rattle.basicop.specs.declared.Gains.{Gains}
 use Rattle.gain_concealment.specs.declared.GainConcealment.{GainConcealment}
 use Rattle.gain_concealment.specs.declared.UsedGains.{UsedGains}
 use Rattle.gain_concealment.specs.Median.{median}
@@ -31,7 +31,7 @@ taking_in gain history = drop 1 history ++ (gain ∷ [])
 
 -- ---- both
 -- the updates: the gains become the past ones, the pitch gain at most 16384 (1.0), and these enter the fives
-unfoldable pub updated : GainPair → GainConcealment → GainConcealment
+unfoldable pub updated : Gains → GainConcealment → GainConcealment
 updated gains c =
     let pitch = held_to (pos 16384) gains.pitch.0 in
     record {
@@ -44,18 +44,18 @@ updated gains c =
 -- a subframe of an erased frame (bfi 1): its gains, and what goes on
 unfoldable pub concealed_gains : ℤ → GainConcealment → UsedGains
 concealed_gains stage c =
-    let gains : GainPair = record {
+    let gains : Gains = record {
       pitch = record { 0 = concealed_gain pdown c.pitch_history c.past.pitch.0 stage };
       code = record { 0 = concealed_gain cdown c.code_history c.past.code.0 stage };
     } in
     record { gains = gains; next = updated gains c }
 
 -- each gain at most that of the other pair
-abbrev pub held_pair : GainPair → GainPair → GainPair
+abbrev pub held_pair : Gains → Gains → Gains
 held_pair limits gains = record { pitch = record { 0 = held_to limits.pitch.0 gains.pitch.0 }; code = record { 0 = held_to limits.code.0 gains.code.0 } }
 
 -- of a good frame (bfi 0): where the frame before was erased (prev_bf), the gains are first held to the last good ones; then they become these
-unfoldable pub good_gains : Bool → GainPair → GainConcealment → UsedGains
+unfoldable pub good_gains : Bool → Gains → GainConcealment → UsedGains
 good_gains erased gains c =
     let used = if erased then held_pair c.last_good gains else gains in
     let next = updated used c in

@@ -2,10 +2,10 @@
 use Rattle.std.specs.Int.{w16}
 use Rattle.std.proofs.Common.{SFits}
 use Rattle.basicop.specs.Words.{Words}
-use Rattle.gain_concealment.specs.declared.GainPair.{GainPair}
+use Rattle.basicop.specs.declared.Gains.{Gains}
 use Rattle.gain_concealment.specs.declared.GainConcealment.{GainConcealment}
 
-pub record PairFormed (p : GainPair) : Type 0 where
+pub record PairFormed (p : Gains) : Type 0 where
   pub pitch : SFits w16 p.pitch.0
   pub code : SFits w16 p.code.0
 

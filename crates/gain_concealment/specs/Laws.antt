@@ -2,7 +2,7 @@
 use Rattle.std.specs.Prelude.{◌≡◌, Bool, List, ℕ, ◌+◌, ◌<◌, ℤ, pos, length, ◌≤ℤ◌}
 use mathlib.Core.List.{Perm}
 use Rattle.lists.specs.Lists.{at, Every}
-use Rattle.gain_concealment.specs.declared.GainPair.{GainPair}
+use Rattle.basicop.specs.declared.Gains.{Gains}
 use Rattle.gain_concealment.specs.declared.GainConcealment.{GainConcealment}
 use Rattle.gain_concealment.specs.declared.UsedGains.{UsedGains}
 use Rattle.gain_concealment.specs.Median.{sorted, median}
@@ -21,7 +21,7 @@ abbrev pub MedianOfAny : Type 0
 MedianOfAny = (xs ys : List ℤ) → Perm xs ys → median xs ≡ median ys
 
 -- ---- gains that are not negative, and stay so
-pub record NotNegative (gains : GainPair) : Type 0 where
+pub record NotNegative (gains : Gains) : Type 0 where
   pub pitch : pos 0 ≤ℤ gains.pitch.0
   pub code : pos 0 ≤ℤ gains.code.0
 
@@ -52,4 +52,4 @@ abbrev pub ConcealedKept : Type 0
 ConcealedKept = (stage : ℤ) (c : GainConcealment) → Kept c → Used (concealed_gains stage c)
 
 abbrev pub GoodKept : Type 0
-GoodKept = (erased : Bool) (gains : GainPair) (c : GainConcealment) → NotNegative gains → Kept c → Used (good_gains erased gains c)
+GoodKept = (erased : Bool) (gains : Gains) (c : GainConcealment) → NotNegative gains → Kept c → Used (good_gains erased gains c)

@@ -7,15 +7,8 @@ ghost use Rattle.gain_concealment.specs.Concealment.{concealed_gains, held_pair,
 
 mod tables;
 
-use basicop::{Q1, Q14, mult};
+use basicop::{Gains, Q1, Q14, mult};
 use tables::{code_down, pitch_down};
-
-// Pitch gain and code gain of a subframe.
-#[derive(Clone, Copy)]
-pub struct GainPair {
-    pub pitch: Q14,
-    pub code: Q1,
-}
 
 // What goes from subframe to subframe, a good one or an erased one.
 #[derive(Clone, Copy)]
@@ -24,15 +17,15 @@ pub struct GainConcealment {
     pub pitch_history: [i16; 5],
     pub code_history: [i16; 5],
     // of the last subframe
-    pub past: GainPair,
+    pub past: Gains,
     // of the last subframe of a good frame
-    pub last_good: GainPair,
+    pub last_good: Gains,
 }
 
 // The gains that a subframe is decoded with, and what goes on to the next.
 #[derive(Clone, Copy)]
 pub struct UsedGains {
-    pub gains: GainPair,
+    pub gains: Gains,
     pub next: GainConcealment,
 }
 
@@ -49,7 +42,7 @@ fn median(numbers: [i16; 5]) -> i16
 
 impl GainConcealment {
     // The gains of a subframe become the past gains and enter the fives; the pitch gain is held to 16384 in both.
-    fn update(self, gains: GainPair) -> Self
+    fn update(self, gains: Gains) -> Self
         ensures { result ≡ updated gains self }
     {
         let [_, b, c, d, e] = self.pitch_history;
@@ -58,7 +51,7 @@ impl GainConcealment {
         GainConcealment {
             pitch_history: [b, c, d, e, pitch.0],
             code_history: [q, r, s, t, gains.code.0],
-            past: GainPair {
+            past: Gains {
                 pitch,
                 code: gains.code,
             },
@@ -73,7 +66,7 @@ impl GainConcealment {
     {
         let pitch = median(self.pitch_history).min(self.past.pitch.0);
         let code = median(self.code_history).min(self.past.code.0);
-        let gains = GainPair {
+        let gains = Gains {
             pitch: Q14(mult(pitch, pitch_down(stage))),
             code: Q1(mult(code, code_down(stage))),
         };
@@ -84,7 +77,7 @@ impl GainConcealment {
     }
 
     // A subframe of a good frame: after an erased frame each of its gains is at most that of the last good subframe; then they become those.
-    pub fn update_good(self, gains: GainPair, erased: bool) -> UsedGains
+    pub fn update_good(self, gains: Gains, erased: bool) -> UsedGains
         ensures { result ≡ good_gains erased gains self }
     {
         let held = if erased {
@@ -101,10 +94,10 @@ impl GainConcealment {
 }
 
 // Each gain at most that of the other pair.
-fn hold(gains: GainPair, limits: GainPair) -> GainPair
+fn hold(gains: Gains, limits: Gains) -> Gains
     ensures { result ≡ held_pair limits gains }
 {
-    GainPair {
+    Gains {
         pitch: Q14(gains.pitch.0.min(limits.pitch.0)),
         code: Q1(gains.code.0.min(limits.code.0)),
     }

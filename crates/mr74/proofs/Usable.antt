@@ -9,7 +9,7 @@ use Rattle.pitch.specs.Lag.{Lag, absolute, relative, concealed_lag, lag_of}
 use Rattle.pitch.proofs.Lags.{Lawful, absolute_lawful, relative_lawful, Span, lawful_span, concealed_span}
 use Rattle.spectral.specs.Lsp.{Frequencies}
 use Rattle.decoder.specs.Inputs.{UsableSubframe, Usable}
-use Rattle.gain_concealment.specs.declared.GainPair.{GainPair}
+use Rattle.basicop.specs.declared.Gains.{Gains}
 use Rattle.gain_concealment.specs.declared.GainConcealment.{GainConcealment}
 use Rattle.gain_concealment.specs.Concealment.{concealed_gains, good_gains}
 use Rattle.gain_concealment.specs.Laws.{NotNegative, Kept, Used}
@@ -73,7 +73,7 @@ pub record UsablePrepared (p : Prepared) : Type 0 where
   pub inputs : Usable p.inputs
   pub concealment : Concealing p.concealment
 
-usable_subframe : (lag : Lag) (gains : GainPair) (innovation : List ℤ) → Span lag → NotNegative gains → UsableSubframe (subframe_inputs lag gains innovation)
+usable_subframe : (lag : Lag) (gains : Gains) (innovation : List ℤ) → Span lag → NotNegative gains → UsableSubframe (subframe_inputs lag gains innovation)
 usable_subframe lag gains innovation s g = record { from = s.from; to = s.to; pitch = g.pitch }
 
 last_span : (t : ℤ) (lags : List Lag) → (pos 19 ≤ℤ t) × (t ≤ℤ pos 144) → Every Span lags → (pos 19 ≤ℤ last_lag t lags) × (last_lag t lags ≤ℤ pos 144)

@@ -9,7 +9,7 @@ use Rattle.outcome.specs.Outcome.{is_accepted}
 use Rattle.gain.specs.declared.Gains.{Gains}
 use Rattle.gain.specs.Gain.{decoded_gains}
 use Rattle.gain.specs.Checks.{TableKept}
-use Rattle.gain_concealment.specs.declared.GainPair.{GainPair}
+use Rattle.basicop.specs.declared.Gains.{Gains}
 use Rattle.gain_concealment.specs.Concealment.{good_gains}
 use Rattle.state.specs.declared.Concealment.{Concealment}
 use Rattle.mr74.specs.declared.GainMemory.{GainMemory}
@@ -27,7 +27,7 @@ abbrev pub index_gains : List ℤ → List ℤ → List ℤ → ℕ → Lag → 
 index_gains logs pows sheet k lag m =
     decoded_gains logs pows (at sheet (14 + k)) (sharpened (index_innovation_of sheet k) lag.samples m.sharpening.0) m.gain_decoder.energies
 
-abbrev pub pair_of : Gains → GainPair
+abbrev pub pair_of : Gains → Gains
 pair_of g = record { pitch = g.pitch; code = g.code }
 
 -- they are held, where the frame before was erased; to the next subframe go the sharpening that the gains used leave, the energies with that of the index, and

@@ -4,7 +4,7 @@ use Rattle.std.specs.Prelude.{Bool, List, [], ◌∷◌, ℕ, suc, ℤ, pos}
 use Rattle.lists.specs.Lists.{eq_z}
 use Rattle.pitch.specs.Lag.{Lag}
 use Rattle.decoder.specs.Inputs.{SubframeInputs, FrameInputs}
-use Rattle.gain_concealment.specs.declared.GainPair.{GainPair}
+use Rattle.basicop.specs.declared.Gains.{Gains}
 use Rattle.gain_concealment.specs.declared.GainConcealment.{GainConcealment}
 use Rattle.state.specs.declared.Concealment.{Concealment}
 
@@ -27,7 +27,7 @@ steps step k (lag ∷ lags) m =
     record { subframes = first.inputs ∷ rest.subframes; memory = rest.memory }
 
 -- the inputs of a subframe, of the gains that it uses
-abbrev pub subframe_inputs : Lag → GainPair → List ℤ → SubframeInputs
+abbrev pub subframe_inputs : Lag → Gains → List ℤ → SubframeInputs
 subframe_inputs lag gains innovation = record { lag = lag; pitch = gains.pitch.0; code = gains.code.0; innovation = innovation }
 
 -- ---- a frame

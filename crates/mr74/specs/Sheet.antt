@@ -3,7 +3,7 @@
 use Rattle.std.specs.Prelude.{Bool, List, [], ◌∷◌, ◌++◌, ℕ, ◌+◌, ◌*◌, ℤ, pos, take, drop}
 use Rattle.lists.specs.Lists.{at}
 use Rattle.pitch.specs.Lag.{Lag, absolute, relative}
-use Rattle.gain_concealment.specs.declared.GainPair.{GainPair}
+use Rattle.basicop.specs.declared.Gains.{Gains}
 use Rattle.gain_concealment.specs.declared.GainConcealment.{GainConcealment}
 use Rattle.gain_concealment.specs.Concealment.{good_gains}
 use Rattle.state.specs.declared.Concealment.{Concealment}
@@ -34,7 +34,7 @@ lags_of sheet = lag_pair (at sheet 10) (at sheet 11) ++ lag_pair (at sheet 12) (
 abbrev pub innovation_of : List ℤ → ℕ → List ℤ
 innovation_of sheet k = take 40 (drop (22 + 40 * k) sheet)
 
-abbrev pub gains_at : List ℤ → ℕ → GainPair
+abbrev pub gains_at : List ℤ → ℕ → Gains
 gains_at sheet k = record { pitch = record { 0 = at sheet (14 + 2 * k) }; code = record { 0 = at sheet (15 + 2 * k) } }
 
 -- the gains of each are held, where the frame before was erased, and become the last good ones

@@ -12,7 +12,7 @@ use crate::lags::decode_lags;
 use basicop::Q13;
 use decoder::{Inputs, Parameters};
 use gain::{GainDecoder, Tables};
-use gain_concealment::GainPair;
+use gain_concealment::Gains;
 use pitch::PitchLag;
 use state::Concealment;
 
@@ -47,7 +47,7 @@ impl CheckedIndexSheet<'_> {
         let decoded = memory
             .gain_decoder
             .decode_gains(index, sharpened, self.tables);
-        let sent = GainPair {
+        let sent = Gains {
             pitch: decoded.pitch,
             code: decoded.code,
         };

@@ -11,7 +11,7 @@ use super::SHEET;
 use crate::lags::decode_lags;
 use basicop::{Q1, Q13, Q14};
 use decoder::{Inputs, Parameters};
-use gain_concealment::{GainConcealment, GainPair};
+use gain_concealment::{GainConcealment, Gains};
 use pitch::PitchLag;
 use state::Concealment;
 
@@ -38,7 +38,7 @@ impl CheckedSheet<'_> {
         ensures kept { Kept result.1 }
     {
         let sheet = self.numbers;
-        let sent = GainPair {
+        let sent = Gains {
             pitch: Q14(sheet[14 + 2 * subframe]),
             code: Q1(sheet[15 + 2 * subframe]),
         };

@@ -1,9 +1,9 @@
 // The stages of erased frames on their records: lags, energies, and the gains of erased frames and of good ones. Inputs, then the answers of the reference.
 use super::stages::lag_agrees;
 use super::words::Reader;
-use basicop::{Q1, Q14};
+use basicop::{Gains, Q1, Q14};
 use gain::GainDecoder;
-use gain_concealment::{GainConcealment, GainPair, UsedGains};
+use gain_concealment::{GainConcealment, UsedGains};
 use pitch::{Fraction, PitchDecoder, PitchLag};
 
 // The lags of four subframes, each after the one before.
@@ -29,14 +29,14 @@ pub fn energy(record: &mut Reader) -> Option<bool> {
     Some(record.numbers()? == decoder.conceal_energy().energies)
 }
 
-fn pair(record: &mut Reader) -> Option<GainPair> {
-    Some(GainPair {
+fn pair(record: &mut Reader) -> Option<Gains> {
+    Some(Gains {
         pitch: Q14(record.number()?),
         code: Q1(record.number()?),
     })
 }
 
-fn pair_agrees(record: &mut Reader, gains: GainPair) -> Option<bool> {
+fn pair_agrees(record: &mut Reader, gains: Gains) -> Option<bool> {
     Some(record.number()? == gains.pitch.0 && record.number()? == gains.code.0)
 }
 

@@ -6,7 +6,7 @@ use Rattle.lists.specs.Parts.{joined, total, starts, cut, part_at}
 use Rattle.lists.proofs.Parts.{Each, each_so, cut_joined, counted_cut, joined_cut, one_entry}
 use Rattle.basicop.specs.Words.{Words}
 use Rattle.basicop.proofs.Words.{zero_fits, words_one, words_append}
-use Rattle.gain_concealment.specs.declared.GainPair.{GainPair}
+use Rattle.basicop.specs.declared.Gains.{Gains}
 use Rattle.gain_concealment.specs.Formed.{PairFormed}
 use Rattle.state.specs.declared.State.{State}
 use Rattle.state.specs.State.{WellFormed, FieldsPlaced}
@@ -26,7 +26,7 @@ words_joined (n ∷ ns) [] e = absurd e
 words_joined (n ∷ ns) (p ∷ ps) e = words_append p (joined ps) e.0 (words_joined ns ps e.1)
 
 -- a part of two, pitch and code gain
-words_pair : (p : GainPair) → PairFormed p → Words 2 (pair_numbers p)
+words_pair : (p : Gains) → PairFormed p → Words 2 (pair_numbers p)
 words_pair p f = words_append (p.pitch.0 ∷ []) (p.code.0 ∷ []) (words_one p.pitch.0 f.pitch) (words_one p.code.0 f.code)
 
 two_entries : (xs : List ℤ) → length xs ≡ 2 → pair_numbers (pair_from xs) ≡ xs

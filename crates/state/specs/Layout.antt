@@ -4,7 +4,7 @@ use Rattle.lists.specs.Lists.{at}
 use Rattle.lists.specs.Parts.{joined, total, cut, part_at}
 use Rattle.decoder.specs.declared.Core.{Core}
 use Rattle.postfilter.specs.declared.Postfilter.{Postfilter}
-use Rattle.gain_concealment.specs.declared.GainPair.{GainPair}
+use Rattle.basicop.specs.declared.Gains.{Gains}
 use Rattle.gain_concealment.specs.declared.GainConcealment.{GainConcealment}
 use Rattle.state.specs.declared.Concealment.{Concealment}
 use Rattle.state.specs.declared.State.{State}
@@ -114,7 +114,7 @@ abbrev pub code_history_part : Part Concealment
 code_history_part = part 5 (λ (c : Concealment). c.gains.code_history)
 
 -- pitch first
-abbrev pub pair_numbers : GainPair → List ℤ
+abbrev pub pair_numbers : Gains → List ℤ
 pair_numbers p = p.pitch.0 ∷ p.code.0 ∷ []
 
 -- past gains
@@ -140,7 +140,7 @@ concealment_count = total (counts concealment_parts)
 unfoldable pub concealment_numbers : Concealment → List ℤ
 concealment_numbers c = joined (parts_in concealment_parts c)
 
-abbrev pub pair_from : List ℤ → GainPair
+abbrev pub pair_from : List ℤ → Gains
 pair_from xs = record { pitch = record { 0 = at xs 0 }; code = record { 0 = at xs 1 } }
 
 abbrev pub concealment_from : List (List ℤ) → Concealment

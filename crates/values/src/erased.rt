@@ -2,9 +2,9 @@
 ghost use Rattle.std.specs.Prelude.{◌<◌};
 
 use super::records::{fields, read_back, zero_state};
-use basicop::{Q1, Q14};
+use basicop::{Gains, Q1, Q14};
 use gain::GainDecoder;
-use gain_concealment::{GainConcealment, GainPair};
+use gain_concealment::GainConcealment;
 use pitch::{Fraction, PitchDecoder, PitchLag};
 use state::State;
 use std::io;
@@ -55,7 +55,7 @@ fn lags(last_lag: i16) -> [PitchLag; 4] {
 }
 
 // the gains of an erased frame
-fn concealed(gains: GainConcealment, stage: usize) -> [GainPair; 4]
+fn concealed(gains: GainConcealment, stage: usize) -> [Gains; 4]
     requires { stage < 7 }
 {
     let a = gains.conceal(stage);
@@ -113,11 +113,11 @@ fn gains_after(
     GainConcealment {
         pitch_history,
         code_history,
-        past: GainPair {
+        past: Gains {
             pitch: Q14(pitch),
             code: Q1(code),
         },
-        last_good: GainPair {
+        last_good: Gains {
             pitch: Q14(0),
             code: Q1(0),
         },

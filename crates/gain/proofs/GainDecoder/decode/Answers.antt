@@ -21,7 +21,7 @@ decode_gains-requires c =
 pub returns-in-Ok : goal.returns-in-Ok
 returns-in-Ok c =
     let a = c.args in
-    let n = index c.before in
+    let n = index c.before.before.before in
     let same : pos (nat_abs a.index) ≡ a.index = rw n.1 refl in
     let t = c.in-Ok.ensures in
     rw (c.decode_gains.ensures, to_z-of_z c.ranges.index, same, t.1.0, t.1.1)
