@@ -1,0 +1,45 @@
+// The kinds of sheets: their checks, and what each comes to before the core, the inputs of its frame.
+#![tactic(auto)]
+
+mod checks;
+mod kind;
+mod lags;
+mod sheet;
+
+use basicop::Q14;
+pub use checks::check_call;
+use decoder::Inputs;
+use gain::GainDecoder;
+use gain_concealment::GainConcealment;
+pub use kind::{CheckedKind, SheetKind};
+pub use lags::Lags;
+pub use sheet::CheckedSheet;
+use state::Concealment;
+
+/// The numbers of a frame sheet.
+pub const SHEET: usize = 182;
+
+/// The numbers of an index sheet.
+pub const INDEX_SHEET: usize = 178;
+
+/// The numbers of an erased sheet.
+pub const ERASED_SHEET: usize = 171;
+
+/// The numbers of the lent output.
+pub const SAMPLES: usize = 160;
+
+/// What goes from subframe to subframe before the core: the sharpening that the gains leave, the past energies, and the gains' concealment.
+#[derive(Clone, Copy)]
+pub struct GainMemory {
+    pub sharpening: Q14,
+    pub gain_decoder: GainDecoder,
+    pub concealment: GainConcealment,
+}
+
+/// What a sheet comes to: the inputs of its frame, and the concealment and the past energies after it.
+#[derive(Drop)]
+pub struct Prepared {
+    pub inputs: Inputs,
+    pub concealment: Concealment,
+    pub gain_decoder: GainDecoder,
+}
