@@ -5,8 +5,8 @@ use Rattle.std.proofs.lemmas.List.{take-append-drop, take-append-le, drop-append
 use Rattle.lists.specs.Lists.{at}
 use Rattle.lists.proofs.Entries.{stretch_at}
 use Rattle.pitch.specs.Lag.{Lag}
-use Rattle.mr74.specs.Sheet.{lsfs_of, pitch_indices_of, gains_of, lags_of, lag_pair, innovation_of}
-use Rattle.mr74.specs.Indexed.{index_innovation_of, with_gains}
+use Rattle.kinds.specs.Sheet.{lsfs_of, pitch_indices_of, gains_of, lags_of, lag_pair, innovation_at}
+use Rattle.mr74.specs.Indexed.{with_gains}
 
 module _ (gains sheet : List ℤ) (count : length sheet ≡ 178) (eight : length gains ≡ 8) where
   front : length (take 14 sheet) ≡ 14
@@ -33,7 +33,7 @@ module _ (gains sheet : List ℤ) (count : length sheet ≡ 178) (eight : length
   gains_with =
       ap (take 8) (drop_at (take 14 sheet) (gains ++ drop 18 sheet) 14 front) ∙ take_at gains (drop 18 sheet) 8 eight
 
-  pub innovation_with : (k : ℕ) → innovation_of (with_gains gains sheet) k ≡ index_innovation_of sheet k
+  pub innovation_with : (k : ℕ) → innovation_at 22 (with_gains gains sheet) k ≡ innovation_at 18 sheet k
   innovation_with k =
       let a : 22 + 40 * k ≡ length (take 14 sheet) + (length gains + 40 * k) = omega (arith, front, eight) in
       ap (take 40)

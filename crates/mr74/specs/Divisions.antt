@@ -1,6 +1,5 @@
--- How many divisions a frame reaches. Document 01: "A divisor is any number that the definition divides by, at a division it reaches".
--- A count by the cases that divide, beside the quotients that the trace tells.
--- The theorems are `every_division` and `frame_divisions` in proofs/Divisions.antt.
+-- How many divisions a frame reaches (docs/BENCH.md, "Recurrence"): a divisor is any number that the definition divides by, at a division that it reaches.
+-- A count by the cases that divide, beside the quotients that the trace tells. The theorem is `every_division` in proofs/Divisions.antt.
 use Rattle.std.specs.Prelude.{◌≡◌, true, List, ℕ, ◌+◌, ℤ, length}
 use Rattle.lists.specs.Lists.{count}
 use Rattle.decoder.specs.Inputs.{FrameInputs}
@@ -8,11 +7,10 @@ use Rattle.decoder.specs.Core.{samples_of}
 use Rattle.decoder.specs.Divisions.{enhancements_divide}
 use Rattle.postfilter.specs.Divisions.{tilts_divide, controls_divide}
 use Rattle.state.specs.declared.State.{State}
-use Rattle.outcome.specs.Outcome.{Outcome, is_accepted}
-use Rattle.mr74.specs.Prepass.{Prepared}
-use Rattle.mr74.specs.Sheet.{frame_prepared}
-use Rattle.mr74.specs.Checks.{frame_outcome}
-use Rattle.mr74.specs.Frame.{core_result_of, accepted_trace, frame_trace}
+use Rattle.outcome.specs.Outcome.{is_accepted}
+use Rattle.kinds.specs.Kind.{Kind, call_outcome}
+use Rattle.kinds.specs.Prepass.{prepared}
+use Rattle.mr74.specs.Frame.{core_result_of, call_trace}
 
 -- the subframes whose enhancement divides, those whose tilt does, and those whose gain control does
 abbrev pub enhancement_divisions : FrameInputs → State → ℕ
@@ -27,12 +25,9 @@ control_divisions inputs s = count (controls_divide s.post (core_result_of input
 abbrev pub divisions_of : FrameInputs → State → ℕ
 divisions_of inputs s = enhancement_divisions inputs s + (tilt_divisions inputs s + control_divisions inputs s)
 
--- a trace tells each of them: of any frame and state, and of an accepted sheet
+-- the trace of an accepted call of any kind tells each of them
 abbrev pub EveryDivision : Type 0
-EveryDivision = (o : Outcome) (p : Prepared) (s : State) → length (accepted_trace o p s).quotients ≡ divisions_of p.inputs s
-
-abbrev pub FrameDivisions : Type 0
-FrameDivisions =
-    (sheet : List ℤ) (s : State) (out : List ℤ)
-    → is_accepted (frame_outcome sheet s (length out)) ≡ true
-    → length (frame_trace sheet s out).quotients ≡ divisions_of (frame_prepared sheet s.concealment).inputs s
+EveryDivision =
+    (kind : Kind) (energies sheet : List ℤ) (s : State) (out : List ℤ)
+    → is_accepted (call_outcome kind sheet s (length out)) ≡ true
+    → length (call_trace kind energies sheet s out).quotients ≡ divisions_of (prepared kind energies sheet s).inputs s

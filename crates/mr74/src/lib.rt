@@ -3,78 +3,57 @@
 
 ghost use Rattle.std.specs.Prelude.{◌≡◌, Ok, Err, map};
 ghost use Rattle.decoder.specs.Subframe.{flag_of};
-ghost use Rattle.mr74.specs.Frame.{accepted_trace, call_result, result_of, frame_call};
-ghost use Rattle.mr74.specs.Inner.{prepared_of, refused_answer};
+ghost use Rattle.kinds.specs.Kind.{kind_of};
+ghost use Rattle.kinds.specs.Checked.{lent_kind};
+ghost use Rattle.kinds.specs.Inner.{prepared_of};
+ghost use Rattle.mr74.specs.Frame.{accepted_trace, call_result, energies_result, energies_result_of, frame_call, index_call, erased_call};
+ghost use Rattle.mr74.specs.Inner.{kind_call, refused_answer};
 
-mod checks;
-mod erased_call;
-mod erased_sheet;
-mod index_call;
-mod index_sheet;
-mod lags;
-mod sheet;
-
-use basicop::Q14;
-use checks::check_frame;
-use decoder::{CoreOutput, Inputs};
-pub use erased_call::frame_erased;
+use decoder::CoreOutput;
 use gain::GainDecoder;
-use gain_concealment::GainConcealment;
-pub use index_call::frame_indexed;
+pub use kinds::{ERASED_SHEET, INDEX_SHEET, SAMPLES, SHEET};
+use kinds::{GainMemory, Prepared, SheetKind, check_call};
 use lpc::Rows;
 use outcome::{Outcome, Refusal};
 use postfilter::Postfiltered;
-use state::{Concealment, State};
+use state::State;
 
-// The numbers of a frame sheet, of an index sheet, of an erased sheet, and of the lent output.
-pub const SHEET: usize = 182;
-
-pub const INDEX_SHEET: usize = 178;
-
-pub const ERASED_SHEET: usize = 171;
-
-pub const SAMPLES: usize = 160;
-
-// The bytes of a frame sheet, two a number.
+/// The bytes of a frame sheet, two a number.
 pub const SHEET_BYTES: usize = 2 * SHEET;
 
-// What the frame call gives beside the lent samples.
+/// What the frame call gives beside the lent samples.
 #[derive(Drop)]
 pub struct FrameAnswer {
     pub outcome: Outcome,
     pub rows: Rows,
-    // of each subframe the first sample, 0 to 39, at which a step of its first pass clamped, 40 where none did; 40 four times where the call was refused
+    /// Of each subframe the first sample, 0 to 39, at which a step of its first pass clamped, 40 where none did; 40 four times where the call was refused.
     pub places: [usize; 4],
     pub next: State,
 }
 
-// What goes from subframe to subframe of an index sheet before the core: the sharpening that the gains leave, the past energies, and the gains' concealment.
-#[derive(Clone, Copy)]
-pub struct GainMemory {
-    pub sharpening: Q14,
-    pub gain_decoder: GainDecoder,
-    pub concealment: GainConcealment,
-}
-
-// What a frame call that takes past energies gives beside the lent samples: the frame's answer, and the energies after it.
+/// What a frame call that is lent past energies gives beside the lent samples: the frame's answer, and the energies after it.
 #[derive(Drop)]
 pub struct EnergiesAnswer {
     pub frame: FrameAnswer,
-    pub next: GainDecoder,
+    pub gain_decoder: GainDecoder,
 }
 
-// The retry flags of an answer: a subframe was retried where its place is not 40.
+/// The retry flags of an answer: a subframe was retried where its place is not 40.
 pub fn flags(places: [usize; 4]) -> [bool; 4]
     ensures { result ≡ map flag_of places }
 {
     places.map(|place| place != 40)
 }
 
-// ---- the calls
 // The core of the frame, then the postfilter: the answer, and the samples.
-fn decode(state: State, inputs: Inputs, concealment: Concealment) -> (FrameAnswer, [i16; SAMPLES])
-    ensures { call_result result.0 result.1 ≡ result_of (accepted_trace (Ok tt) (prepared_of inputs concealment) state) }
+fn decode(state: State, prepared: Prepared) -> (EnergiesAnswer, [i16; SAMPLES])
+    ensures { energies_result result.0 result.1 ≡ energies_result_of (accepted_trace (Ok tt) (prepared_of prepared) state) }
 {
+    let Prepared {
+        inputs,
+        concealment,
+        gain_decoder,
+    } = prepared;
     let CoreOutput {
         rows,
         places,
@@ -85,7 +64,7 @@ fn decode(state: State, inputs: Inputs, concealment: Concealment) -> (FrameAnswe
         samples,
         memory: post,
     } = postfilter::process(state.post, synthesis, rows);
-    let answer = FrameAnswer {
+    let frame = FrameAnswer {
         outcome: Ok(()),
         rows,
         places,
@@ -95,34 +74,95 @@ fn decode(state: State, inputs: Inputs, concealment: Concealment) -> (FrameAnswe
             concealment,
         },
     };
-    (answer, samples)
+    (
+        EnergiesAnswer {
+            frame,
+            gain_decoder,
+        },
+        samples,
+    )
 }
 
-// Rows all zero, places 40, the state as it came.
+// Rows all zero, places 40, the state and the energies as they came.
 #[tactic(auto, using(crate::proofs::Answers::zeros))]
-fn refused(refusal: Refusal, state: State) -> FrameAnswer
-    ensures { result ≡ refused_answer (Err refusal) state }
+fn refused(refusal: Refusal, state: State, gain_decoder: GainDecoder) -> EnergiesAnswer
+    ensures { result ≡ refused_answer (Err refusal) state gain_decoder }
 {
-    FrameAnswer {
-        outcome: Err(refusal),
-        rows: Rows::default(),
-        places: [40; 4],
-        next: state,
+    EnergiesAnswer {
+        frame: FrameAnswer {
+            outcome: Err(refusal),
+            rows: Rows::default(),
+            places: [40; 4],
+            next: state,
+        },
+        gain_decoder,
     }
 }
 
-// Decodes a frame. Accepted: 160 samples in the lent output; rows, places and the next state come back. Refused, with a number and a place:
-// the lent output keeps its samples, rows are 0, places 40, and the state comes back as it came.
-pub fn frame(sheet: &[i16], state: State, out: &mut [i16]) -> FrameAnswer
-    ensures { call_result result out.new ≡ frame_call sheet.now state out.old }
+// A call of any kind.
+fn call(
+    kind: SheetKind<'_>,
+    sheet: &[i16],
+    state: State,
+    gain_decoder: GainDecoder,
+    out: &mut [i16],
+) -> EnergiesAnswer
+    ensures { energies_result result out.new ≡ kind_call (kind_of (lent_kind kind.entry)) gain_decoder.energies sheet.now state out.old }
 {
-    match check_frame(sheet, state, out.len()) {
+    match check_call(kind, sheet, state, out.len()) {
         Ok(checked) => {
-            let (inputs, concealment) = checked.inputs(state.concealment);
-            let (answer, samples) = decode(state, inputs, concealment);
+            let opened = GainMemory {
+                sharpening: state.core.sharpening,
+                gain_decoder,
+                concealment: state.concealment.gains,
+            };
+            let prepared = checked.inputs(state.concealment, opened);
+            let (answer, samples) = decode(state, prepared);
             out.copy_from_slice(&samples);
             answer
         }
-        Err(refusal) => refused(refusal, state),
+        Err(refusal) => refused(refusal, state, gain_decoder),
     }
+}
+
+/// Decodes a frame. Accepted: 160 samples in the lent output; rows, places and the next state come back. Refused, with a number and a place: the lent output keeps its
+/// samples, rows are 0, places 40, and the state comes back as it came.
+pub fn frame(sheet: &[i16], state: State, out: &mut [i16]) -> FrameAnswer
+    ensures { call_result result out.new ≡ frame_call sheet.now state out.old }
+{
+    call(SheetKind::Frame, sheet, state, GainDecoder::default(), out).frame
+}
+
+/// Decodes a frame of an index sheet: its gains come from their indices, by the lent tables of logarithm and power and by the past energies. Accepted: as `frame`, and
+/// the energies come back with those of its subframes. Refused: as `frame`, and the energies as they came.
+pub fn frame_indexed(
+    sheet: &[i16],
+    state: State,
+    log_table: &[i16],
+    pow_table: &[i16],
+    gain_decoder: GainDecoder,
+    out: &mut [i16],
+) -> EnergiesAnswer
+    ensures { energies_result result out.new ≡ index_call log_table.now pow_table.now gain_decoder.energies sheet.now state out.old }
+{
+    call(
+        SheetKind::Index(log_table, pow_table),
+        sheet,
+        state,
+        gain_decoder,
+        out,
+    )
+}
+
+/// Decodes an erased frame: its sheet has LSFs, an attenuation stage and innovation; lags and gains are concealed. Accepted: as `frame`, and the past energies come back
+/// stepped by `conceal_energy` once a subframe. Refused: as `frame`, and the energies as they came.
+pub fn frame_erased(
+    sheet: &[i16],
+    state: State,
+    gain_decoder: GainDecoder,
+    out: &mut [i16],
+) -> EnergiesAnswer
+    ensures { energies_result result out.new ≡ erased_call gain_decoder.energies sheet.now state out.old }
+{
+    call(SheetKind::Erased, sheet, state, gain_decoder, out)
 }
