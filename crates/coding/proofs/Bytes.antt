@@ -1,5 +1,5 @@
 -- Numbers of 16 bits and their bytes: one number, loops over them, and both ways after one another.
-use Rattle.std.proofs.Common.{◌≡◌, refl, ap, ap₂, sym, ◌∙◌, Bool, true, false, List, [], ◌∷◌, append_assoc, ℕ, zero, suc, ◌+◌, ◌-◌, ◌*◌, ◌/◌, ◌%◌, ◌^◌, ◌≤◌, ◌<◌, arith, ltb, ℤ, pos, negsuc, length, take, set, get_or, length-set, take_all, ltb-false, lt-ltb, le-ltb, w16, to_z, of_z, SFits}
+use Rattle.std.proofs.Common.{◌≡◌, refl, ap, sym, ◌∙◌, Bool, true, false, List, [], ◌∷◌, append_assoc, ℕ, zero, suc, ◌+◌, ◌-◌, ◌*◌, ◌/◌, ◌%◌, ◌^◌, ◌≤◌, ◌<◌, arith, ltb, ℤ, pos, negsuc, length, take, set, get_or, length-set, take_all, ltb-false, lt-ltb, le-ltb, w16, to_z, of_z, SFits}
 use lib.Signed.{mag}
 use Rattle.std.proofs.lemmas.List.{take_more, take_more_set}
 use Rattle.std.specs.Int.{to_le_bytes}
@@ -37,14 +37,6 @@ pub put_done : (dst : List ℕ) (src : List ℤ) (i : ℕ) → length dst ≡ 2 
 put_done dst src i l h inv =
     let k : length dst ≤ 2 * i = omega (arith, l) in
     sym (take_all (2 * i) dst k) ∙ inv ∙ ap bytes_of (take_all i src h)
-
--- a number that went through a local
-pub one_put : {y : List ℕ} (z : ℤ) → mag z < 2 ^ 15 → y ≡ bytes_of (to_z w16 (of_z w16 z) ∷ []) → y ≡ bytes_of (z ∷ [])
-one_put z h e = e ∙ ap (λ (x : ℤ). bytes_of (x ∷ [])) (back w16 h)
-
--- two numbers so
-pub two_put : {b : List ℕ} (y z : ℤ) → mag y < 2 ^ 15 → mag z < 2 ^ 15 → b ≡ bytes_of (to_z w16 (of_z w16 y) ∷ to_z w16 (of_z w16 z) ∷ []) → b ≡ bytes_of (y ∷ z ∷ [])
-two_put y z h k e = e ∙ ap₂ (λ (a b : ℤ). bytes_of (a ∷ b ∷ [])) (back w16 h) (back w16 k)
 
 -- ---- there and back
 pub number_back : (x : ℤ) → mag x < 2 ^ 15 → signed16 (unsigned (bits16 x % 256) (bits16 x / 256)) ≡ x
