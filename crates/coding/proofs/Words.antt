@@ -2,7 +2,9 @@
 use Rattle.std.proofs.Common.{◌≡◌, refl, ap, ap₂, ◌∙◌, List, [], ◌∷◌, map, ℕ, zero, suc, ◌+◌, ◌*◌, ◌<◌, arith, ℤ, length, take, drop, get_or}
 use Rattle.lists.specs.Lists.{at}
 use Rattle.lists.specs.Parts.{cut}
-use Rattle.coding.specs.Bytes.{signed16, unsigned, words}
+use Rattle.basicop.specs.Words.{Words}
+use Rattle.coding.specs.Bytes.{signed16, unsigned, words, Bytes}
+use Rattle.coding.proofs.Bytes.{words_fit}
 
 -- two bytes for each number
 abbrev pub doubled : List ℕ → List ℕ
@@ -25,6 +27,9 @@ words_length [] n e = omega (arith, e)
 words_length (x ∷ []) n e = absurd (omega (arith, e))
 words_length (x ∷ y ∷ b) zero e = absurd (omega (arith, e))
 words_length (x ∷ y ∷ b) (suc n) e = ap suc (words_length b n (omega (arith, e)))
+
+pub words_of : (n : ℕ) (b : List ℕ) → length b ≡ 2 * n → Bytes b → Words n (words b)
+words_of n b e f = record { count = words_length b n e; fit = words_fit b f }
 
 -- the numbers of the parts of bytes are the parts of their numbers
 pub words_cut : (ns : List ℕ) (b : List ℕ) → map words (cut (doubled ns) b) ≡ cut ns (words b)

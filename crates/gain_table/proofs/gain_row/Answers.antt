@@ -1,5 +1,4 @@
 -- `gain_row` meets its contract: the row at an index, which the test of every row has passed.
-use Rattle.std.proofs.Common.{◌≡◌, refl}
 use Rattle.gain_table.specs.Rows.{gain_row, gain_table}
 use Rattle.gain_table.proofs.Ranges.{row_ranges}
 use Rattle.gain_table.proofs.gain_row.Goals as goal
