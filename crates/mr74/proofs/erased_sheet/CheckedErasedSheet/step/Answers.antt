@@ -31,7 +31,7 @@ same c =
     let x = c.args.self.numbers.now in
     let f : SFits w16 (stage_of x) = search rules in
     let s = stage_in x (ap is_accepted c.args.self.accepted) in
-    c.conceal-used.ensures ∙ ap (λ (stage : ℤ). concealed_gains stage c.args.gains) (cast_gives w16 (stage_of x) f s.0)
+    c.conceal-used.ensures.value ∙ ap (λ (stage : ℤ). concealed_gains stage c.args.gains) (cast_gives w16 (stage_of x) f s.0)
 
 used : (c : After-conceal-used) → Used c.conceal-used.result
 used c = subst Used (sym (same c)) (erased_used c.args.self.numbers.now c.args.gains c.requires.kept)

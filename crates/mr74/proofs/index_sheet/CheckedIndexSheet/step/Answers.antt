@@ -48,7 +48,7 @@ used c =
     let sent : NotNegative (pair_of c.decode_gains-decoded.result) =
     rw c.decode_gains-decoded.ensures
     (record { pitch = pitch_from logs pows (pos _) _ _ h l; code = code_from logs pows (pos _) _ _ (index_tables logs pows x (ap is_accepted a.self.accepted)) h l }) in
-    subst Used (sym c.update_good-used.ensures) (good_kept a.erased (pair_of c.decode_gains-decoded.result) a.memory.concealment sent c.requires.kept)
+    subst Used (sym c.update_good-used.ensures.value) (good_kept a.erased (pair_of c.decode_gains-decoded.result) a.memory.concealment sent c.requires.kept)
 
 pub invariant_of-parameters : goal.invariant_of-parameters
 invariant_of-parameters c = record { lawful = c.requires.lawful; gain = (used c.before.before.before.before.before.before).gains.pitch }
@@ -59,7 +59,7 @@ returns-clause-value c =
     let f : SFits w16 (at a.self.numbers.now (14 + a.subframe)) = search rules in
     let i = index_in (at a.self.numbers.now (14 + a.subframe)) f (gain_index a.self.tables.logs.now a.self.tables.pows.now a.self.numbers.now (ap is_accepted a.self.accepted) a.subframe c.requires.place) in
     index_step_is a.self.tables.logs.now a.self.tables.pows.now a.self.numbers.now a.erased a.subframe (lag_of a.lag) a.memory
-    c.stretch.ensures c.sharpen-sharpened.ensures (c.decode_gains-decoded.ensures ∙ rw i.is) c.update_good-used.ensures c.next_sharpening.ensures
+    c.stretch.ensures c.sharpen-sharpened.ensures (c.decode_gains-decoded.ensures ∙ rw i.is) c.update_good-used.ensures.value c.next_sharpening.ensures
 
 pub returns-clause-kept : goal.returns-clause-kept
 returns-clause-kept c = (used c.before.before.before.before.before.before.before).next

@@ -17,7 +17,7 @@ same c =
     let a = c.args in
     let p : SFits w16 (at a.self.numbers.now (14 + 2 * a.subframe)) = search rules in
     let q : SFits w16 (at a.self.numbers.now (15 + 2 * a.subframe)) = search rules in
-    rw (to_z-of_z p, to_z-of_z q) at c.update_good-used.ensures
+    rw (to_z-of_z p, to_z-of_z q) at c.update_good-used.ensures.value
 
 used : (c : After-update_good-used) → Used c.update_good-used.result
 used c =
