@@ -67,6 +67,6 @@ kept_applied =
       rises = λ x y z. (sorted_kept (x ∷ y ∷ z ∷ [])).rises 1 (rw (length_sorted (x ∷ y ∷ z ∷ [])) (lit< tt));
       concealed = λ stage pitch code p c. let u = concealed_kept stage (alike pitch code) (alike_kept pitch code p c) in (u.gains.pitch, u.next.past.code);
       good = λ erased pitch code sent p c q.
-      let u = good_kept erased (pair sent sent) (alike pitch code) (record { pitch = q; code = q }) (alike_kept pitch code p c) in
-      (u.gains.code, u.next.last_good.pitch);
+          let u = good_kept erased (pair sent sent) (alike pitch code) (record { pitch = q; code = q }) (alike_kept pitch code p c) in
+          (u.gains.code, u.next.last_good.pitch);
     }

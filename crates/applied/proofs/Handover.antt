@@ -210,8 +210,8 @@ accepted_applied =
         };
       });
       losing = λ lag p c m h.
-      let k = (in_range (state_losing lag p c m) h).concealment in
-      (k.from, (k.to, (k.gains.last_good.pitch, (k.gains.last_good.code, k.mark))));
+          let k = (in_range (state_losing lag p c m) h).concealment in
+          (k.from, (k.to, (k.gains.last_good.pitch, (k.gains.last_good.code, k.mark))));
       losing_so = λ lag p c m a b d e f g. in_range_accepted (state_losing lag p c m) (record {
         from = le_z_yes tt;
         to = le_z_yes tt;

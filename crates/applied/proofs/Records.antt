@@ -3,8 +3,7 @@ use Rattle.std.proofs.Common.{refl}
 use Rattle.outcome.specs.Checks.{first_met, first_outside}
 use Rattle.state.specs.Layout.{core_of, post_of, concealment_of, state_of}
 use Rattle.coding.specs.Bytes.{words}
-use Rattle.record.specs.Record.{record_outcome, encoded, write_call}
-use Rattle.applied.specs.Examples.{silent_numbers}
+use Rattle.record.specs.Record.{record_outcome, write_call}
 use Rattle.applied.specs.Records.{current_ordered, ReaderOrder, first_ordered, FirstOrder, write_ordered, WriterOrder}
 
 pub reader_order : ReaderOrder

@@ -1,7 +1,7 @@
 -- Records that each check of the reader's order turns back, 11 to 19, with 13, 14 and 15 of both versions, and writes that each check of the writer's order
 -- turns back, 5, 16 to 19: each meets its check and all those after it that it can meet. The theorems are `reader_order`, `first_order` and `writer_order` in
 -- proofs/Records.antt: each outcome is computed from the definition.
-use Rattle.std.specs.Prelude.{◌≡◌, List, [], ◌∷◌, ◌++◌, ℕ, ◌-◌, ℤ, pos, replicate}
+use Rattle.std.specs.Prelude.{◌≡◌, List, [], ◌∷◌, ◌++◌, ℕ, ◌-◌, ℤ, replicate}
 use Rattle.outcome.specs.Outcome.{number_of, place_of}
 use Rattle.state.specs.Layout.{state_of}
 use Rattle.record.specs.Record.{record_outcome, write_call}
