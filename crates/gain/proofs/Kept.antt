@@ -1,4 +1,4 @@
--- A table by the two searches, as the code tests it, and what an accepted one is: `AcceptedTables`.
+-- A table by the two searches, as the code tests it, and what an accepted one is; and no other is turned back.
 use Rattle.std.proofs.Common.{◌≡◌, refl, ap, Bool, true, false, cond, not, ◌&&◌, List, [], ◌∷◌, ℕ, zero, suc, ◌≤◌, ◌<◌, add-one, arith, eqb, ltb, eqb→eq, ℤ, pos, ◌-ℤ◌, length, replicate, ◌≤ℤ◌, eq-eqb, ne_eqb, ltb-true, ltb-false}
 use borrow.Author.Differences.{sum_is_lem}
 use Rattle.std.specs.Prelude.{Some, None, is_some}
@@ -6,9 +6,10 @@ use Rattle.lists.specs.Lists.{at}
 use Rattle.lists.proofs.Table.{both_pass}
 use Rattle.basicop.proofs.Ints.{arith_ℤ, sub_ℤ_is}
 use Rattle.basicop.proofs.Tests.{no_less}
-use Rattle.outcome.specs.Checks.{within, apart, found, first_outside, first_close}
+use Rattle.outcome.specs.Checks.{within, apart, found, first_outside, first_close, first_met}
 use Rattle.outcome.proofs.Gaps.{in_gaps}
-use Rattle.gain.specs.Checks.{is_table, TableKept, AcceptedTables, KeptAccepted}
+use Rattle.outcome.specs.Outcome.{is_accepted}
+use Rattle.gain.specs.Checks.{is_table, table_checks, TableKept}
 use Rattle.gain.proofs.Groups.{in_limit, tables_accept}
 
 -- ---- what it is
@@ -27,7 +28,7 @@ table_kept table e =
       rises = λ k h. rw (add-one k) (omega (arith_ℤ, in_gaps (pos 0) (pos 0) table (suc k) (omega arith), sum_is_lem (at table k) (pos 0)));
     }
 
-pub accepted_tables : AcceptedTables
+pub accepted_tables : (logs pows : List ℤ) → is_accepted (first_met (table_checks logs pows)) ≡ true → TableKept logs × TableKept pows
 accepted_tables logs pows h =
     let t = tables_accept logs pows h in
     (table_kept logs t.0, table_kept pows t.1)
@@ -79,7 +80,7 @@ none_close before [] r = refl
 none_close before (x ∷ xs) r =
     rw (no_less (x -ℤ before) (pos 0) (omega (arith_ℤ, r 0 (omega arith), sub_ℤ_is x before))) (ap suc (none_close x xs (λ k l. r (suc k) (omega (arith, l)))))
 
-pub kept_accepted : KeptAccepted
+pub kept_accepted : (table : List ℤ) → TableKept table → is_table table ≡ true
 unfolding is_table
 kept_accepted table t =
     rw (none_outside 33 (pos 32767) table t.count t.range, none_close (pos 0) table above, t.count)
