@@ -3,7 +3,7 @@
 
 ghost use Rattle.std.specs.Prelude.{◌≡◌, not, pos, length};
 ghost use Rattle.outcome.specs.Outcome.{refusal_number, refusal_place, number_of, place_of};
-ghost use Rattle.outcome.specs.Checks.{within, apart, found, first_outside, first_close};
+ghost use Rattle.outcome.specs.Checks.{within, apart, found, first_outside, first_close, first_met, room_check};
 
 use std::iter::once;
 
@@ -107,6 +107,21 @@ pub fn place(outcome: Outcome) -> usize
     ensures { result ≡ place_of outcome }
 {
     outcome.err().map_or(0, Refusal::place)
+}
+
+/// The samples of a frame: what the lent output has room for.
+pub const SAMPLES: usize = 160;
+
+/// Refusal 5: the lent output has not room for the samples of a frame.
+#[tactic(auto, unfolding(crate::specs::Checks::first_met))]
+pub fn check_room(room: usize) -> Outcome
+    ensures { result ≡ first_met (room_check room) }
+{
+    let other_room = room != SAMPLES;
+    if other_room {
+        return Err(Refusal::OutputLength);
+    }
+    Ok(())
 }
 
 // Whether a number lies outside 0..=limit.
