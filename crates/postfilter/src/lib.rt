@@ -12,7 +12,7 @@ mod whitening;
 
 use basicop::{Q15, mult, sub};
 use copy::stretch;
-use energy::{Controlled, GainControl};
+use energy::GainControl;
 use lpc::Rows;
 use synthesis::Filtered;
 use tilting::{impulse, tilt_of};
@@ -94,7 +94,7 @@ fn filter(memory: Postfilter, coefficients: [i16; 11], samples: [i16; 40]) -> Po
         input_history,
         synthesis_history,
         previous_residual,
-        gain,
+        mut gain,
     } = memory;
     let numerator = weight(coefficients, &NUMERATOR);
     let denominator = weight(coefficients, &DENOMINATOR);
@@ -107,10 +107,7 @@ fn filter(memory: Postfilter, coefficients: [i16; 11], samples: [i16; 40]) -> Po
         samples: unscaled,
         history: synthesis_history,
     } = synthesis::filter(denominator, fed, synthesis_history);
-    let Controlled {
-        samples: scaled,
-        control: gain,
-    } = energy::control_gain(gain, samples, unscaled);
+    let scaled = energy::process(&mut gain, samples, unscaled);
     let input_history = synthesis::newest(samples);
     Postfiltered {
         samples: scaled,
