@@ -73,7 +73,7 @@ module _ (c : Core) (row : List ℤ) (p : SubframeInputs) where
 
 -- ---- the subframes of a frame
 results_divisions : (c : Core) (rows : List (List ℤ)) (ps : List SubframeInputs) → length (quotients_of (subframe_results c rows ps)) ≡ count (enhancements_divide c.past ps (subframe_results c rows ps))
-unfolding subframe_results flat_map
+unfolding subframe_results
 results_divisions c [] [] = refl
 results_divisions c [] (p ∷ ps) = refl
 results_divisions c (row ∷ rows) [] = refl
