@@ -1,6 +1,7 @@
 -- A subframe tells one quotient where `enhancement_divides` says so, and else none; the subframes of a frame tell as many together.
 use Rattle.std.proofs.Common.{◌≡◌, refl, sym, ap₂, ◌∙◌, Bool, true, false, cond, ◌&&◌, List, [], ◌∷◌, ℕ, min, ◌+◌, ◌<◌, arith, lit<, ℤ, pos, negsuc, ◌*ℤ◌, length, length-append, ◌≤ℤ◌, ◌<ℤ◌, w16}
-use lib.Signed.{lt_z}
+use mathlib.Core.List.{flat_map}
+use Rattle.std.specs.Int.Signed.{lt_z}
 use Rattle.lists.specs.Lists.{one_if, count}
 use Rattle.basicop.specs.Ops.{clamp, sub, shl}
 use Rattle.basicop.specs.Divided.{undivided}
@@ -73,7 +74,7 @@ module _ (c : Core) (row : List ℤ) (p : SubframeInputs) where
 
 -- ---- the subframes of a frame
 results_divisions : (c : Core) (rows : List (List ℤ)) (ps : List SubframeInputs) → length (quotients_of (subframe_results c rows ps)) ≡ count (enhancements_divide c.past ps (subframe_results c rows ps))
-unfolding subframe_results
+unfolding subframe_results flat_map
 results_divisions c [] [] = refl
 results_divisions c [] (p ∷ ps) = refl
 results_divisions c (row ∷ rows) [] = refl

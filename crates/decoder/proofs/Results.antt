@@ -1,7 +1,8 @@
 -- What a subframe and the core of a frame give: lengths, ranges, places, divisors.
-use Rattle.std.proofs.Common.{ℕ, zero, suc, ◌*◌, ◌≤◌, ◌≡◌, refl, sym, ap, ◌∙◌, subst, Bool, true, false, not, cond, List, [], ◌∷◌, map, flat_map, arith, ltb-true, ltb-false, eq-eqb, ne_eqb, ltb, ℤ, pos, length, drop, get_or, ◌≤ℤ◌}
-use lib.ListN.{length-map}
-use lib.Signed.{lt_z}
+use Rattle.std.proofs.Common.{ℕ, zero, suc, ◌*◌, ◌≤◌, ◌≡◌, refl, sym, ap, ◌∙◌, subst, Bool, true, false, not, cond, List, [], ◌∷◌, map, arith, ltb-true, ltb-false, eq-eqb, ne_eqb, ltb, ℤ, pos, length, drop, get_or, ◌≤ℤ◌}
+use mathlib.Core.List.{flat_map}
+use Rattle.std.proofs.Math.ListN.{length-map}
+use Rattle.std.specs.Int.Signed.{lt_z}
 use Rattle.lists.specs.Lists.{Every}
 use Rattle.lists.proofs.Entries.{length_pairwise, every_append, every_map, every_at}
 use Rattle.basicop.specs.Ops.{sub, shl, quartered}
@@ -184,10 +185,12 @@ last Q c (t ∷ u ∷ ts) (suc n) l e =
     record { result = r.result; holds = r.holds; next = r.next; place = r.place }
 
 every_flat : {A B : Type 0} (P : B → Type 0) (f : A → List B) (xs : List A) → Every (λ (x : A). Every P (f x)) xs → Every P (flat_map f xs)
+unfolding flat_map
 every_flat P f [] e = tt
 every_flat P f (x ∷ xs) e = every_append P (f x) (flat_map f xs) e.0 (every_flat P f xs e.1)
 
 joined_words : (ts : List SubframeResult) → Every (λ (t : SubframeResult). Words 40 t.synthesis.samples) ts → Words (40 * length ts) (samples_of ts)
+unfolding flat_map
 joined_words [] e = record { count = refl; fit = λ i. zero_fits }
 joined_words (t ∷ ts) e = subst (λ (n : ℕ). Words n (samples_of (t ∷ ts))) (omega arith) (words_append t.synthesis.samples (samples_of ts) e.0 (joined_words ts e.1))
 

@@ -1,5 +1,6 @@
 -- A subframe step and the core of a frame, put together from what their parts give.
 use Rattle.std.proofs.Common.{◌≡◌, List, [], ◌∷◌, ◌++◌, append-nil, ℤ, pos}
+use mathlib.Core.List.{flat_map}
 use Rattle.pitch.specs.Lag.{lag_of}
 use Rattle.spectral.specs.Lsp.{lsps_of}
 use Rattle.lpc.specs.Rows.{rows_of}
@@ -42,5 +43,5 @@ module _ (c : Core) (i : Inputs) where
       → q ≡ subframe_output (subframe_result p.next rows.c (subframe_of i.c)) → r ≡ subframe_output (subframe_result q.next rows.d (subframe_of i.d))
       → ys ≡ o.samples ++ (p.samples ++ (q.samples ++ r.samples))
       → ◌≡◌ {A = CoreOutput} (record { rows = rows; places = o.place ∷ p.place ∷ q.place ∷ r.place ∷ []; samples = ys; next = r.next }) (core_output (core_result c (inputs_of i)))
-  unfolding core_result subframe_results
+  unfolding core_result subframe_results flat_map
   core_is el er eo ep eq et ey = rw (append-nil, ey, et, eq, ep, eo, er, el)

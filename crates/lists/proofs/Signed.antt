@@ -1,7 +1,7 @@
 -- A signed local is its bits (`of_z`), an array's list has numbers. What crosses a local comes back as `to_z w (of_z w z)`.
 use Rattle.std.proofs.Common.{ℕ, zero, suc, ◌<◌, ◌^◌, ◌≡◌, ◌∙◌, List, [], ◌∷◌, ℤ, pow_pos, SFits, to_z, of_z, to_z-of_z}
-use lib.Signed.{mag}
-use mir.Syntax.{Width}
+use Rattle.std.specs.Int.Signed.{mag}
+use Rattle.std.specs.Int.{Width}
 use mir.Val.{Val, hbits}
 use denote.Array.{each}
 use denote.Shadow.{shadow}

@@ -1,7 +1,7 @@
 -- The search for the first number that is too close to the one before.
 use Rattle.std.proofs.Common.{ℕ, zero, suc, min, ◌+◌, ◌<◌, ◌≡◌, refl, ap, Bool, true, false, cond, not, List, [], ◌∷◌, arith, ℤ, pos, ◌+ℤ◌, ◌-ℤ◌, length, ◌≤ℤ◌}
-use lib.Signed.{lt_z}
-use borrow.Author.Tests.{not-true}
+use Rattle.std.specs.Int.Signed.{lt_z}
+use Rattle.std.proofs.lemmas.Bool.{not-true}
 use Rattle.std.specs.Prelude.{position}
 use Rattle.std.specs.List.{zip, position_or_len}
 use Rattle.std.proofs.lemmas.Slice.Zip.{length-zip}

@@ -1,12 +1,11 @@
 -- The search for the first number outside 0..=its limit.
 use Rattle.std.proofs.Common.{ℕ, zero, suc, ◌+◌, ◌≤◌, ◌<◌, min, ◌≡◌, refl, ap, subst, Bool, true, false, cond, not, ◌||◌, List, [], ◌∷◌, ◌++◌, append-nil, arith, ℤ, pos, length, replicate, ◌≤ℤ◌, ltb-false, T, ltb}
-use lib.Signed.{lt_z}
-use borrow.Author.Tests.{not-true}
+use Rattle.std.specs.Int.Signed.{lt_z}
+use Rattle.std.proofs.lemmas.Bool.{not-true, or_parts}
 use Rattle.std.specs.Prelude.{Option, Some, None, is_some, position}
 use Rattle.std.specs.List.{zip, position_or_len}
 use Rattle.std.proofs.lemmas.Slice.Zip.{length-zip}
 use Rattle.lists.specs.Lists.{at, Every}
-use Rattle.std.proofs.lemmas.Bool.{or_parts}
 use Rattle.basicop.proofs.Ints.{arith_ℤ}
 use Rattle.basicop.proofs.Tests.{less_no, no_less}
 use Rattle.outcome.specs.Checks.{within, found, first_outside}
