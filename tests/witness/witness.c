@@ -1,7 +1,7 @@
-/* An outside witness: the stages that libopencore-amrnb.a exposes, run on the recorded answers of tests/vectors, which are this decoder's too
+/* An outside witness: the stages that libopencore-amrnb.a exposes, run on the recorded answers of crates/replay/data, which are this decoder's too
    (crates/replay). For each file: records, how many agree, and how many of those that differ lie inside the ranges in which the library keeps
    the standard's clamps. Not part of the gate. Build where Debian's libopencore-amrnb-dev is installed:
-       gcc -std=c11 -O2 -Wall -Wextra tests/witness/witness.c -l:libopencore-amrnb.a -lstdc++ -lm -o target/witness && target/witness tests/vectors */
+       gcc -std=c11 -O2 -Wall -Wextra tests/witness/witness.c -l:libopencore-amrnb.a -lstdc++ -lm -o target/witness && target/witness crates/replay/data */
 #include <stdint.h>
 #include <stdio.h>
 #include <stdlib.h>
@@ -226,7 +226,7 @@ static void run(const char *folder, const char *name, int words, int (*stage)(co
 
 int main(int argc, char **argv)
 {
-    const char *folder = argc > 1 ? argv[1] : "tests/vectors";
+    const char *folder = argc > 1 ? argv[1] : "crates/replay/data";
     run(folder, "lsp.bin", 20, lsp);
     run(folder, "convert.bin", 21, convert);
     run(folder, "interpolate.bin", 64, interpolate);

@@ -22,8 +22,9 @@ use crate::{
 };
 use std::{collections::BTreeSet, fs, path::PathBuf};
 
-fn vectors(name: &str) -> PathBuf {
-    [env!("CARGO_MANIFEST_DIR"), "..", "vectors", name]
+/// A file of the recorded answers.
+fn recorded(name: &str) -> PathBuf {
+    [env!("CARGO_MANIFEST_DIR"), "../../crates/replay/data", name]
         .iter()
         .collect()
 }
@@ -35,14 +36,14 @@ fn values_hold() {
 
 #[test]
 fn readme_has_every_layout() {
-    let readme = fs::read_to_string(vectors("README.md")).expect("the vectors have a README.md");
+    let readme = fs::read_to_string(recorded("README.md")).expect("they have a README.md");
     assert!(readme.contains(files::layout().trim_end()));
 }
 
 #[test]
 fn answers_come_from_the_reference() {
     for file in &FILES {
-        let bytes = fs::read(vectors(file.name)).expect("the file was written");
+        let bytes = fs::read(recorded(file.name)).expect("the file was written");
         for record in file.records(&bytes).expect("whole records") {
             let (input, answer) = record.split_at(file.input_words());
             assert_eq!((file.answer)(input), answer, "{}", file.name);
@@ -96,7 +97,7 @@ fn pass(random: &mut Random) -> ([i16; ROW], [i16; LSFS], [i16; SUBFRAME]) {
 #[test]
 fn places_follow_the_recurrence() {
     let file = files::find("synthesis.bin").expect("the file is listed");
-    let bytes = fs::read(vectors(file.name)).expect("the file was written");
+    let bytes = fs::read(recorded(file.name)).expect("the file was written");
     for record in file.records(&bytes).expect("whole records") {
         let excitation = part(&record, ROW + LSFS);
         let samples = whole(&part(&record, 0), &part(&record, ROW), &excitation);
