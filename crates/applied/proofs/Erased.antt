@@ -1,6 +1,7 @@
 -- The erased frames of specs/Erased.antt: what the sheets come to, computed from the definition; `accepted_erased`, `sorted_kept`, `median_of_any`,
 -- `concealed_in_range`, `next_accepted`, `next_well_formed`, `fields_placed`, `indexed_is_frame` and `every_list_as_measured`, applied.
-use Rattle.std.proofs.Common.{◌≡◌, refl, sym, ap, ◌∙◌, true, false, List, [], ◌∷◌, map, flat_map, lit<, ℤ, pos, length, replicate}
+use Rattle.std.proofs.Common.{◌≡◌, refl, sym, ap, ◌∙◌, true, false, List, [], ◌∷◌, map, lit<, ℤ, pos, length, replicate}
+use mathlib.Core.List.{flat_map}
 use mathlib.Core.List.Perm
 use lib.Signed.{le_z_yes}
 use Rattle.std.specs.Prelude.{Ok}

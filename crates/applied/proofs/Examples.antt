@@ -1,5 +1,6 @@
 -- The calls of specs/Examples.antt, computed from the definition.
-use Rattle.std.proofs.Common.{◌≡◌, refl, ap, false, cond, ◌||◌, flat_map, get_or}
+use Rattle.std.proofs.Common.{◌≡◌, refl, ap, false, cond, ◌||◌, get_or}
+use mathlib.Core.List.{flat_map}
 use Rattle.lists.specs.Lists.{iter, tab}
 use Rattle.basicop.specs.Ops.{clamp, asr, wrap, add, sub, mult, shl, l_add, l_sub, l_mult, l_shl, l_shr_r, l_deposit_h, doublings, norm_l, div_s, l_extract, mpy_32_16}
 use Rattle.pitch.specs.Lag.{absolute, lag_min, relative}

@@ -1,5 +1,6 @@
 -- Document 01's listing, computed from the definitions of the whole outputs; and what the bench program's steps print of it, by `steps_output`.
-use Rattle.std.proofs.Common.{◌≡◌, refl, ◌∙◌, List, [], ◌++◌, flat_map, ℕ, lit≤, length, replicate}
+use Rattle.std.proofs.Common.{◌≡◌, refl, ◌∙◌, List, [], ◌++◌, ℕ, lit≤, length, replicate}
+use mathlib.Core.List.{flat_map}
 use Rattle.lists.specs.Lists.{one_if, iter, tab}
 use Rattle.basicop.specs.Ops.{clamp, asr, wrap, add, sub, mult, shl, l_add, l_sub, l_mult, l_shl, l_shr_r, l_deposit_h, doublings, norm_l, div_s, l_extract, mpy_32_16}
 use Rattle.pitch.specs.Lag.{absolute, lag_min, relative}

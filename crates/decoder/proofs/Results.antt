@@ -1,5 +1,6 @@
 -- What a subframe and the core of a frame give: lengths, ranges, places, divisors.
-use Rattle.std.proofs.Common.{ℕ, zero, suc, ◌*◌, ◌≤◌, ◌≡◌, refl, sym, ap, ◌∙◌, subst, Bool, true, false, not, cond, List, [], ◌∷◌, map, flat_map, arith, ltb-true, ltb-false, eq-eqb, ne_eqb, ltb, ℤ, pos, length, drop, get_or, ◌≤ℤ◌}
+use Rattle.std.proofs.Common.{ℕ, zero, suc, ◌*◌, ◌≤◌, ◌≡◌, refl, sym, ap, ◌∙◌, subst, Bool, true, false, not, cond, List, [], ◌∷◌, map, arith, ltb-true, ltb-false, eq-eqb, ne_eqb, ltb, ℤ, pos, length, drop, get_or, ◌≤ℤ◌}
+use mathlib.Core.List.{flat_map}
 use lib.ListN.{length-map}
 use lib.Signed.{lt_z}
 use Rattle.lists.specs.Lists.{Every}

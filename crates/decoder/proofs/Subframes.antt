@@ -1,5 +1,6 @@
 -- A subframe step and the core of a frame, put together from what their parts give.
-use Rattle.std.proofs.Common.{◌≡◌, List, [], ◌∷◌, ◌++◌, flat_map, append-nil, ℤ, pos}
+use Rattle.std.proofs.Common.{◌≡◌, List, [], ◌∷◌, ◌++◌, append-nil, ℤ, pos}
+use mathlib.Core.List.{flat_map}
 use Rattle.pitch.specs.Lag.{lag_of}
 use Rattle.spectral.specs.Lsp.{lsps_of}
 use Rattle.lpc.specs.Rows.{rows_of}
