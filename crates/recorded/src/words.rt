@@ -1,9 +1,9 @@
 // A record's words, read one after another.
 ghost use Rattle.std.specs.Prelude.{◌≡◌, ◌↔◌, ℕ, ◌*◌, List, [], ◌∷◌, IsTrue, length, take, slice_index};
 ghost use Rattle.lists.specs.Parts.{cut};
-ghost use Rattle.decoder.specs.Core.{row_list};
+ghost use Rattle.lpc.specs.Rows.{row_list};
 ghost use Rattle.coding.specs.Bytes.{signed16, unsigned, words};
-ghost use Rattle.replay.specs.Words.{long_of, places_in, Reads};
+ghost use Rattle.recorded.specs.Words.{long_of, places_in, Reads};
 
 use coding::numbers_in;
 use lpc::Rows;

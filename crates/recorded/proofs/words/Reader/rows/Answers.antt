@@ -1,7 +1,7 @@
 -- `Reader::rows` meets its contract: each row is read where the one before ends.
 use Rattle.std.proofs.Common.{arith, ◌<◌, length}
-use Rattle.replay.proofs.Rows.{four_rows, too_few}
-use Rattle.replay.proofs.words.Reader.rows.Goals as goal
+use Rattle.recorded.proofs.Rows.{four_rows, too_few}
+use Rattle.recorded.proofs.words.Reader.rows.Goals as goal
 
 pub returns : goal.returns
 returns c =
