@@ -51,7 +51,7 @@ fn answers_come_from_the_reference() {
     }
 }
 
-/// Demand 3's recurrence: 23 whole numbers a sample, none clamped. The samples before the first at
+/// The recurrence of docs/BENCH.md: 23 whole numbers a sample, none clamped. The samples before the first at
 /// which one of them leaves 32 bits, all forty where none does: their number is the place.
 fn whole(row: &[i16; ROW], history: &[i16; LSFS], x: &[i16; SUBFRAME]) -> Vec<i16> {
     let mut y = history.to_vec();
@@ -154,7 +154,7 @@ fn refused_calls_change_nothing() {
     assert_eq!(out, [5; FRAME]);
 }
 
-/// The first LSF that the source's gap rule moves is the first that breaks document 02's gap, and
+/// The first LSF that the source's gap rule moves is the first that breaks the gap of refusal 6, and
 /// the rule leaves LSFs that keep it.
 #[test]
 fn gap_rule_is_the_sources() {
@@ -307,7 +307,7 @@ fn index_sheets_stand_for_indices() {
     }
 }
 
-/// Table, innovation and energies of any kind: the second decoder's steps lie where the papers have
+/// Table, innovation and energies of any kind: the second decoder's steps lie where docs/BENCH.md has
 /// them, and its gains are the source's.
 #[test]
 fn gain_steps_keep_their_ranges() {
