@@ -1,27 +1,35 @@
-// Peak and mark of a frame.
+//! Peak and mark of a frame.
 ghost use Rattle.std.specs.Prelude.{◌≡◌};
 ghost use Rattle.lines.specs.Lines.{peak_of, mark_of};
+ghost use Rattle.lines.specs.Peaks.{PeakSides, MarkSides};
 
-// The largest distance from zero among the samples: of -32768 it is 32768.
-pub fn peak(samples: [i16; 160]) -> i32
+/// The largest distance from zero among the samples: that of -32768 is 32768.
+pub fn peak(samples: [i16; 160]) -> u16
     ensures { result ≡ peak_of samples }
 {
     samples
         .iter()
-        .fold(0, |most: i32, x| most.max(i32::from(x.unsigned_abs())))
+        .fold(0, |most: u16, x| most.max(x.unsigned_abs()))
 }
 
-// L if the peak is 32760 or more; otherwise R if any flag; otherwise -.
-pub fn mark(peak: i32, flags: [bool; 4]) -> u8
+/// L if the peak is 32760 or more; otherwise R if any flag; otherwise -.
+pub fn mark(peak: u16, flags: [bool; 4]) -> u8
     ensures { result ≡ mark_of peak flags }
 {
-    let quiet = peak < 32760;
+    let loud = peak >= 32760;
     let retried = flags.contains(&true);
-    if !quiet {
+    if loud {
         b'L'
     } else if retried {
         b'R'
     } else {
         b'-'
     }
+}
+
+/// What peak and mark are beside the highest sample, by which frames were once marked.
+pub fn laws()
+    ensures peak { PeakSides }
+    ensures mark { MarkSides }
+{
 }
