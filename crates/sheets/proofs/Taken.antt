@@ -1,8 +1,7 @@
 -- What came of an input that is read in turns into lent bytes.
-use Rattle.std.proofs.Common.{◌≡◌, ℕ, ◌+◌, ◌≤◌, List, ◌++◌, Option, Some, None, Result, Ok, Err, length, take, sym, ap, ◌∙◌, subst, length-take-le}
+use Rattle.std.proofs.Common.{◌≡◌, ℕ, ◌+◌, ◌≤◌, List, ◌++◌, Option, Some, None, length, take, sym, ap, ◌∙◌, subst, length-take-le}
 use borrow.Rule.Slice.PartMut.{put_mid, post_of}
-use Rattle.std.specs.Io.KnownBytes.{Keeps, Consumes, ReadConsumes}
-use Rattle.std.proofs.KnownBytes.{Keeps-trans}
+use Rattle.std.specs.Io.KnownBytes.{Keeps, Consumes}
 use Rattle.std.proofs.lemmas.List.{take-append-le}
 use Rattle.std.proofs.Math.Seq.{take-append-add}
 
@@ -16,12 +15,8 @@ front_grows at k n bytes put h f =
     sym (front ∙ ap (λ (l : List ℕ). take at bytes ++ l) (take-append-le n put (post_of at k bytes) f))
 
 -- ---- a read that gave nothing, and was tried again
-kept_consumed : (a b c : Option (List ℕ)) (bs : List ℕ) → Keeps a b → Consumes b c bs → Consumes a c bs
+pub kept_consumed : (a b c : Option (List ℕ)) (bs : List ℕ) → Keeps a b → Consumes b c bs → Consumes a c bs
 kept_consumed None b c bs k p = tt
 kept_consumed (Some xs) None c bs k p = absurd k
 kept_consumed (Some xs) (Some ys) None bs k p = absurd p
 kept_consumed (Some xs) (Some ys) (Some zs) bs k p = sym k ∙ p
-
-pub read_again : {E : Type 0} (a b c : Option (List ℕ)) (r : Result ℕ E) (bytes : List ℕ) → Keeps a b → ReadConsumes b c r bytes → ReadConsumes a c r bytes
-read_again a b c (Ok n) bytes k p = (kept_consumed a b c (take n bytes) k p.0, p.1)
-read_again a b c (Err e) bytes k p = Keeps-trans a b c k p
