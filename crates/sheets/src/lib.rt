@@ -1,21 +1,21 @@
 //! What a program of the bench reads: a version 1 record, then sheets one by one.
 #![tactic(auto)]
 
-ghost use Rattle.std.specs.Prelude.{◌≡◌, ◌≢◌, ◌<◌, ◌^◌, ℕ, List, length, take, IfOk, IfErr};
+ghost use Rattle.std.specs.Prelude.{◌≡◌, ◌≢◌, ◌<◌, ◌^◌, ℕ, List, length, take, IfOk, IfErr, OnOk};
 ghost use Rattle.std.specs.Fn.{FnOnceReturnsAt};
 ghost use Rattle.std.specs.Io.{ReadsAtMost};
-ghost use Rattle.std.specs.Io.KnownBytes.{ReadConsumes};
+ghost use Rattle.std.specs.Io.KnownBytes.{ReadConsumes, Appends};
 ghost use Rattle.std.specs.IoError.{error_kind};
 ghost use Rattle.mr74.specs.Frame.{call_result};
 ghost use Rattle.sheets.specs.Sheets.{record_bytes, sheet_call, opening_step};
-ghost use Rattle.sheets.specs.Reading.{TakesFirst};
+ghost use Rattle.sheets.specs.Reading.{TakesFirst, IsOfRead, IsOfWrite};
 
 use lines::Line;
 use mr74::{FrameAnswer, SAMPLES, SHEET, SHEET_BYTES};
 use record::{Answer, FIRST_RECORD_BYTES};
 use state::State;
 use std::io;
-use std::io::{ErrorKind, Read};
+use std::io::{ErrorKind, Read, Write};
 use thiserror::Error;
 
 /// What a step of a program makes, and what it carries to the next one, where there is a next one.
@@ -75,15 +75,29 @@ pub fn read_full<R: Read>(input: &mut R, bytes: &mut [u8]) -> io::Result<usize>
 pub fn on_bytes<const N: usize, R: Read, T, F: FnOnce(&[u8]) -> T>(
     input: &mut R,
     step: F,
-) -> io::Result<T>
+) -> Result<T, ProgramError>
     requires room { N < 2 ^ 63 }
     requires step { F.IsAlwaysCallable step }
     ensures made { IfOk result (λ made. (came : List ℕ) × TakesFirst (R.remaining input.old) (R.remaining input.new) N came × FnOnceReturnsAt F.FnOnce step came made) }
-    ensures retried { IfErr result (λ e. error_kind e ≢ ErrorKind.Interrupted) }
+    ensures err { IfErr result IsOfRead }
 {
     let mut bytes = [0u8; N];
-    let n = read_full(input, &mut bytes)?;
-    Ok(step(&bytes[..n]))
+    match read_full(input, &mut bytes) {
+        Ok(n) => Ok(step(&bytes[..n])),
+        Err(error) => Err(ProgramError::Read(error)),
+    }
+}
+
+// ---- writing
+/// Writes a line.
+pub fn write_line<W: Write>(output: &mut W, line: &Line) -> Result<(), ProgramError>
+    ensures ok { OnOk result (Appends (W.contents output.old) (W.contents output.new) line.now) }
+    ensures err { IfErr result IsOfWrite }
+{
+    match output.write_all(line.as_bytes()) {
+        Ok(()) => Ok(()),
+        Err(error) => Err(ProgramError::Write(error)),
+    }
 }
 
 // ---- the record
@@ -105,9 +119,9 @@ pub fn open_call(bytes: &[u8]) -> Step<Line, State>
 }
 
 /// Reads the record from the input, as many bytes as one of version 1 has, and takes the first step on what came of it.
-pub fn read_record<R: Read>(input: &mut R) -> io::Result<Step<Line, State>>
+pub fn read_record<R: Read>(input: &mut R) -> Result<Step<Line, State>, ProgramError>
     ensures step { IfOk result (λ s. (came : List ℕ) × TakesFirst (R.remaining input.old) (R.remaining input.new) record_bytes came × (s ≡ opening_step came)) }
-    ensures retried { IfErr result (λ e. error_kind e ≢ ErrorKind.Interrupted) }
+    ensures err { IfErr result IsOfRead }
 {
     on_bytes::<FIRST_RECORD_BYTES, _, _, _>(input, |bytes| open_call(bytes))
 }
