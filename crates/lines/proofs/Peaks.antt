@@ -1,5 +1,5 @@
 -- The largest distance from zero, the mark by its tests, and both beside the highest sample; any of the flags.
-use Rattle.std.proofs.Common.{◌≡◌, refl, sym, ap, ◌∙◌, subst, Bool, true, false, List, [], ◌∷◌, map, fold, max, ℕ, zero, suc, ◌<◌, ◌≤◌, arith, le-leb, leb-false, leb, leb-true, ℤ, pos, negsuc, neg_ℤ, nat_abs, length, ◌≤ℤ◌, ◌<ℤ◌, w16, SFits}
+use Rattle.std.proofs.Common.{◌≡◌, refl, sym, ◌∙◌, subst, Bool, true, false, List, [], ◌∷◌, map, fold, max, ℕ, zero, suc, ◌<◌, ◌≤◌, arith, le-leb, leb-false, leb, leb-true, ℤ, pos, negsuc, neg_ℤ, nat_abs, length, ◌≤ℤ◌, ◌<ℤ◌, w16, SFits}
 use mathlib.Core.Bool.{beq}
 use lib.ListN.{length-map}
 use lib.Signed.{nat_abs-le}
@@ -11,7 +11,7 @@ use borrow.Author.Tests.{lt-leb}
 use Rattle.basicop.proofs.Ints.{arith_ℤ}
 use Rattle.basicop.proofs.Range.{nat_abs_is}
 use Rattle.lines.specs.Lines.{largest, peak_of, any_of, mark_of}
-use Rattle.lines.specs.Peaks.{larger, highest, height, PeakSides, KeepsMark, MarkSides}
+use Rattle.lines.specs.Peaks.{larger, highest, height, PeakSides, MarkSides}
 use Rattle.lines.proofs.Highest.{larger_by, larger_over, larger_under, highest_keeps, highest_over}
 
 -- ---- the peak

@@ -11,7 +11,6 @@ pub use fields::{LINE_ROOM, Line, Text};
 pub use marks::{mark, peak};
 
 /// An accepted sheet: its number, four flags, peak and mark.
-#[tactic(auto, unfolding(crate::specs::Lines::frame_line))]
 pub fn frame_line(number: u64, flags: [bool; 4], peak: u16) -> Line
     ensures { result ≡ frame_line number flags peak }
 {
