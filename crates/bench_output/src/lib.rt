@@ -22,7 +22,6 @@ pub struct Carried {
 }
 
 // The line of a sheet's answer.
-#[tactic(auto, using(crate::proofs::Answers::line_accepted, crate::proofs::Answers::line_refused))]
 fn answer_line(number: u64, answer: FrameAnswer, samples: [i16; SAMPLES]) -> Line
     ensures { result ≡ answer_line number (call_result answer samples) }
 {
@@ -33,7 +32,6 @@ fn answer_line(number: u64, answer: FrameAnswer, samples: [i16; SAMPLES]) -> Lin
 }
 
 // A whole sheet: its line, and the state that its call gives back.
-#[tactic(auto, using(crate::proofs::Answers::step_whole))]
 fn whole_step(sheet: &[u8; SHEET_BYTES], carried: Carried) -> Step<Line, Carried>
     requires { carried.number < u64.MAX }
     ensures { result ≡ sheet_step carried sheet.now }
@@ -51,7 +49,6 @@ fn whole_step(sheet: &[u8; SHEET_BYTES], carried: Carried) -> Step<Line, Carried
 }
 
 /// The step of what was read of a sheet: all of it, nothing, or some.
-#[tactic(auto, using(crate::proofs::Answers::step_none, crate::proofs::Answers::step_cut))]
 pub fn step(bytes: &[u8], carried: Carried) -> Step<Line, Carried>
     requires { carried.number < u64.MAX }
     ensures { result ≡ sheet_step carried bytes.now }
