@@ -41,7 +41,6 @@ fn push_field<const ROOM: usize>(line: &mut Text<ROOM>, n: u64)
 }
 
 /// Accepted sheets, refused sheets, retried subframes, sum of squares, mean peak.
-#[tactic(auto, using(crate::proofs::Lines::report_laid))]
 pub fn report_line(totals: Totals) -> Line
     ensures { result ≡ report_line totals }
 {

@@ -60,3 +60,78 @@ pub fn serve<R: Read, W: Write>(input: &mut R, output: &mut W) -> Result<(), Pro
     let line = read_report(input)?;
     sheets::write_line(output, &line)
 }
+
+#[cfg(test)]
+mod tests {
+    use super::*;
+    use std::io;
+    use std::io::ErrorKind;
+    use std::test::Fail;
+
+    // An accepted record of zeros, and one byte of a sheet.
+    fn input() -> [u8; 403] {
+        let mut bytes = [0; 403];
+        bytes[394..402].copy_from_slice(&[0x4D, 0x37, 0x01, 0x00, 0x8A, 0x01, 0xC5, 0x00]);
+        bytes
+    }
+
+    // Gives lent bytes, and then it fails.
+    #[derive(Drop)]
+    struct Failing<'a> {
+        left: &'a [u8],
+    }
+
+    impl<'a> Read for Failing<'a> {
+        fn read(&mut self, buf: &mut [u8]) -> io::Result<usize> {
+            if self.left.is_empty() {
+                return Err(io::Error::from(ErrorKind::ConnectionReset));
+            }
+            self.left.read(buf)
+        }
+    }
+
+    // Takes nothing.
+    #[derive(Drop)]
+    struct Full {}
+
+    impl Write for Full {
+        fn write(&mut self, _buf: &[u8]) -> io::Result<usize> {
+            Err(io::Error::from(ErrorKind::StorageFull))
+        }
+
+        fn flush(&mut self) -> io::Result<()> {
+            Ok(())
+        }
+    }
+
+    #[test]
+    fn serves_lent_bytes(rt: HostRuntime) -> Result<(), Fail> {
+        let bytes = input();
+        let mut output = Vec::new(rt.alloc());
+        assert!(rt; serve(&mut &bytes[..], &mut output).is_ok());
+        assert_eq!(rt; output.as_slice(), b"0 0 0 0 none\n");
+        Ok(())
+    }
+
+    // In the record and in the first sheet: no total of what came is told.
+    #[test]
+    fn tells_a_failed_read(rt: HostRuntime) {
+        let bytes = input();
+        for count in [0, 401, 402, 403] {
+            let mut output = Vec::new(rt.alloc());
+            let mut reader = Failing {
+                left: &bytes[..count],
+            };
+            let served = serve(&mut reader, &mut output);
+            assert!(rt; matches!(served, Err(ProgramError::Read(_))));
+            assert!(rt; output.is_empty());
+        }
+    }
+
+    #[test]
+    fn tells_a_failed_write(rt: HostRuntime) {
+        let bytes = input();
+        let served = serve(&mut &bytes[..], &mut Full {});
+        assert!(rt; matches!(served, Err(ProgramError::Write(_))));
+    }
+}
