@@ -59,7 +59,6 @@ impl GainDecoder {
     }
 
     // gc_pred_average_limited: a quarter of the sum of the energies, at least -14336.
-    #[tactic(auto, using(basicop::proofs::Calls::read_back), unfolding(crate::specs::Gain::average_energy, lists::specs::Lists::iter))]
     fn average(self) -> Q10
         ensures { result.0 ≡ average_energy self.energies }
     {

@@ -20,7 +20,6 @@ fn below_mean(innovation: Q13, table: &[i16; 33]) -> i32
 }
 
 // With the past energies (Q10) by the predictor's coefficients (Q13), newest first.
-#[tactic(auto, using(basicop::proofs::Calls::read_back), unfolding(lists::specs::Lists::iter))]
 fn predicted_energy(energies: [i16; 4], innovation: Q13, table: &[i16; 33]) -> i32
     ensures { result ≡ predicted_energy table.now innovation.0 energies }
 {
@@ -30,7 +29,6 @@ fn predicted_energy(energies: [i16; 4], innovation: Q13, table: &[i16; 33]) -> i
 }
 
 // gc_pred: the logarithm of the code gain that the past energies predict. 5439 is MR74's own factor.
-#[tactic(auto, using(basicop::proofs::Calls::read_back), unfolding(crate::specs::Gain::predicted_gain))]
 pub fn predict(energies: [i16; 4], innovation: Q13, table: &[i16; 33]) -> Logarithm
     ensures { result ≡ predicted_gain table.now innovation.0 energies }
 {
