@@ -15,7 +15,7 @@ use gain_table::gain_row;
 use outcome::Outcome;
 use prediction::{code_gain, predict};
 
-// The energies of the four subframes before (Q10), newest first.
+/// The energies of the four subframes before (Q10), newest first.
 #[derive(Clone, Copy)]
 pub struct GainDecoder {
     pub energies: [i16; 4],
@@ -29,7 +29,7 @@ pub struct Gains {
     pub next: GainDecoder,
 }
 
-// What the call of an index gives.
+/// What the call of an index gives.
 #[derive(Drop)]
 pub struct GainAnswer {
     pub outcome: Outcome,
@@ -67,14 +67,14 @@ impl GainDecoder {
         Q10(mult(sum, 8192).max(-14336))
     }
 
-    // The energies after a subframe of an erased frame.
+    /// The energies after a subframe of an erased frame.
     pub fn conceal_energy(self) -> Self
         ensures { result.energies ≡ concealed_energies self.energies }
     {
         self.enter(self.average())
     }
 
-    // Dec_gain, of an index and tables that their checks have accepted. The innovation is sharpened.
+    /// Dec_gain, of an index and tables that their checks have accepted. The innovation is sharpened.
     pub fn decode_gains(self, index: usize, innovation: Q13, tables: Tables) -> Gains
         requires { index < 128 }
         ensures { result ≡ decoded_gains tables.entry.logs.now tables.entry.pows.now (pos index) innovation.0 self.energies }
@@ -88,8 +88,8 @@ impl GainDecoder {
         }
     }
 
-    // Decodes the gains of a subframe from their index, its sharpened innovation and the tables of logarithm and power. Refused, with a number and a
-    // place: gains 0 and 0, and the energies as they came.
+    /// Decodes the gains of a subframe from their index, its sharpened innovation and the tables of logarithm and power. Refused, with a number and a
+    /// place: gains 0 and 0, and the energies as they came.
     pub fn decode(
         self,
         index: i16,

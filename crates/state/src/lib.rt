@@ -14,7 +14,7 @@ pub use layout::{POST_NUMBERS, numbers_of, post_numbers, post_of, state_of};
 use outcome::{Outcome, Refusal};
 use postfilter::Postfilter;
 
-// What erased frames go by: fields 197 to 212 of the record, in its order.
+/// What erased frames go by: fields 197 to 212 of the record, in its order.
 #[derive(Clone, Copy)]
 pub struct Concealment {
     // the last lag, in whole samples
@@ -24,7 +24,7 @@ pub struct Concealment {
     pub erased: i16,
 }
 
-// In the record's order: the core's numbers (fields 0 to 174), the postfilter's (175 to 196) and the concealment's (197 to 212).
+/// In the record's order: the core's numbers (fields 0 to 174), the postfilter's (175 to 196) and the concealment's (197 to 212).
 #[derive(Clone, Copy)]
 pub struct State {
     pub core: Core,
