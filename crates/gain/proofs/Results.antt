@@ -1,5 +1,9 @@
 -- What the definitions of the gains and of the call come to, of what each of their steps gives.
-use Rattle.std.proofs.Common.{◌≡◌, refl, List, ℤ}
+use Rattle.std.proofs.Common.{◌≡◌, refl, arith, List, ℤ}
+use Rattle.std.specs.Prelude.{if◌then◌else◌}
+use Rattle.std.specs.Int.{int_max}
+use Rattle.std.specs.Int.Signed.{lt_z}
+use Rattle.std.proofs.lemmas.Int.{ints}
 use Rattle.std.specs.Prelude.{Ok, Err}
 use Rattle.lists.specs.Lists.{at}
 use Rattle.basicop.specs.declared.Q1.{Q1}
@@ -10,8 +14,12 @@ use Rattle.logarithm.specs.declared.Logarithm.{Logarithm}
 use Rattle.gain_table.specs.Rows.{gain_row}
 use Rattle.gain.specs.declared.GainDecoder.{GainDecoder}
 use Rattle.gain.specs.declared.DecodedGains.{DecodedGains}
-use Rattle.gain.specs.Gain.{predicted_gain, code_gain, entered, decoded_gains}
+use Rattle.gain.specs.Gain.{predicted_gain, code_gain, min_energy, entered, decoded_gains}
 use Rattle.gain.specs.Call.{decode_checks, no_gains, gain_call}
+
+-- at least the least energy, as the code holds it to that
+pub at_least : (x : ℤ) → int_max x min_energy ≡ (if lt_z x min_energy then min_energy else x)
+at_least x = grind (arith, ints)
 
 pub gains_made : (logs pows : List ℤ) (index : ℤ) (innovation energies : List ℤ) {row : List ℤ} {predicted : Logarithm} {code : Q1} {next : GainDecoder} → row ≡ gain_row index → predicted ≡ predicted_gain logs innovation energies → code.0 ≡ code_gain pows (at row 1) predicted → next.energies ≡ entered (at row 2) energies → record { gains = record { pitch = record { 0 = at row 0 }; code = code }; gain_decoder = next } ≡ decoded_gains logs pows index innovation energies
 unfolding decoded_gains

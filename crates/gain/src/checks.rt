@@ -6,7 +6,7 @@ ghost use Rattle.gain.specs.Call.{decode_checks};
 
 use outcome::{Outcome, Refusal};
 
-// The tables of logarithm and power.
+/// The tables of logarithm and power.
 #[derive(Clone, Copy)]
 pub struct Tables<'a> {
     pub logs: &'a [i16; 33],
@@ -27,7 +27,7 @@ fn as_table(numbers: &[i16]) -> Option<&[i16; 33]>
     Some(table)
 }
 
-// 7: a lent table that is none. Place 0 is the logarithm's, 1 the power's.
+/// 7: a lent table that is none. Place 0 is the logarithm's, 1 the power's.
 pub fn check_tables<'a>(logs: &'a [i16], pows: &'a [i16]) -> Result<Tables<'a>, Refusal>
     ensures value { Checked result (first_met (table_checks logs.now pows.now)) (λ tables. (tables.logs.now ≡ logs.now) × (tables.pows.now ≡ pows.now)) }
     ensures accepted { IsOk result ↔ (TableKept logs.now × TableKept pows.now) }
@@ -41,7 +41,7 @@ pub fn check_tables<'a>(logs: &'a [i16], pows: &'a [i16]) -> Result<Tables<'a>, 
     Ok(Tables { logs, pows })
 }
 
-// 8: an index outside 0..=127.
+/// 8: an index outside 0..=127.
 pub fn check_indices<const N: usize>(indices: &[i16; N]) -> Outcome
     ensures { result ≡ first_met (index_checks N indices.now) }
 {
@@ -52,7 +52,7 @@ pub fn check_indices<const N: usize>(indices: &[i16; N]) -> Outcome
     Ok(())
 }
 
-// In the order 7, 8.
+/// In the order 7, 8.
 #[tactic(auto, using(crate::proofs::Order::tables_refuse, crate::proofs::Order::index_decides))]
 pub fn check_decode<'a>(index: i16, logs: &'a [i16], pows: &'a [i16]) -> Result<Tables<'a>, Refusal>
     ensures { Checked result (first_met (decode_checks logs.now pows.now index)) (λ tables. (tables.logs.now ≡ logs.now) × (tables.pows.now ≡ pows.now)) }

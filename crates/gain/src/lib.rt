@@ -15,7 +15,7 @@ use gain_table::gain_row;
 use outcome::Outcome;
 use prediction::{code_gain, predict};
 
-// The energies of the four subframes before (Q10), newest first.
+/// The energies of the four subframes before (Q10), newest first.
 #[derive(Clone, Copy)]
 pub struct GainDecoder {
     pub energies: [i16; 4],
@@ -28,7 +28,7 @@ pub struct DecodedGains {
     pub gain_decoder: GainDecoder,
 }
 
-// What the call of an index gives.
+/// What the call of an index gives.
 #[derive(Drop)]
 pub struct GainAnswer {
     pub outcome: Outcome,
@@ -59,7 +59,6 @@ impl GainDecoder {
     }
 
     // gc_pred_average_limited: a quarter of the sum of the energies, at least -14336.
-    #[tactic(auto, using(basicop::proofs::Calls::read_back), unfolding(crate::specs::Gain::average_energy, lists::specs::Lists::iter))]
     fn average(self) -> Q10
         ensures { result.0 ≡ average_energy self.energies }
     {
@@ -68,14 +67,14 @@ impl GainDecoder {
         Q10(mult(sum, 8192).max(-14336))
     }
 
-    // The energies after a subframe of an erased frame.
+    /// The energies after a subframe of an erased frame.
     pub fn conceal_energy(self) -> Self
         ensures { result.energies ≡ concealed_energies self.energies }
     {
         self.enter(self.average())
     }
 
-    // Dec_gain, of an index and tables that their checks have accepted. The innovation is sharpened.
+    /// Dec_gain, of an index and tables that their checks have accepted. The innovation is sharpened.
     pub fn decode_gains(self, index: usize, innovation: Q13, tables: Tables) -> DecodedGains
         requires { index < 128 }
         ensures { result ≡ decoded_gains tables.entry.logs.now tables.entry.pows.now (pos index) innovation.0 self.energies }
@@ -91,8 +90,8 @@ impl GainDecoder {
         }
     }
 
-    // Decodes the gains of a subframe from their index, its sharpened innovation and the tables of logarithm and power. Refused, with a number and a
-    // place: gains 0 and 0, and the energies as they came.
+    /// Decodes the gains of a subframe from their index, its sharpened innovation and the tables of logarithm and power. Refused, with a number and a
+    /// place: gains 0 and 0, and the energies as they came.
     pub fn decode(
         self,
         index: i16,

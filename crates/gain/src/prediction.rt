@@ -20,7 +20,6 @@ fn below_mean(innovation: Q13, table: &[i16; 33]) -> i32
 }
 
 // With the past energies (Q10) by the predictor's coefficients (Q13), newest first.
-#[tactic(auto, using(basicop::proofs::Calls::read_back), unfolding(lists::specs::Lists::iter))]
 fn predicted_energy(energies: [i16; 4], innovation: Q13, table: &[i16; 33]) -> i32
     ensures { result ≡ predicted_energy table.now innovation.0 energies }
 {
@@ -29,8 +28,7 @@ fn predicted_energy(energies: [i16; 4], innovation: Q13, table: &[i16; 33]) -> i
     l_mac(l_mac(l_mac(newest, 4751, b), 2785, c), 1556, d)
 }
 
-// gc_pred: the logarithm of the code gain that the past energies predict. 5439 is MR74's own factor.
-#[tactic(auto, using(basicop::proofs::Calls::read_back), unfolding(crate::specs::Gain::predicted_gain))]
+/// gc_pred: the logarithm of the code gain that the past energies predict. 5439 is MR74's own factor.
 pub fn predict(energies: [i16; 4], innovation: Q13, table: &[i16; 33]) -> Logarithm
     ensures { result ≡ predicted_gain table.now innovation.0 energies }
 {
@@ -42,7 +40,7 @@ pub fn predict(energies: [i16; 4], innovation: Q13, table: &[i16; 33]) -> Logari
     }
 }
 
-// The predicted gain, corrected. Its fraction is a half of L_Extract, which is not negative.
+/// The predicted gain, corrected. Its fraction is a half of L_Extract, which is not negative.
 #[tactic(auto, using(basicop::proofs::Calls::read_back), unfolding(crate::specs::Gain::code_gain))]
 pub fn code_gain(correction: Q12, predicted: Logarithm, table: &[i16; 33]) -> Q1
     requires { pos 0 ≤ℤ predicted.fraction }

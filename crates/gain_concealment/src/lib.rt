@@ -63,7 +63,7 @@ impl GainConcealment {
         }
     }
 
-    // A subframe of an erased frame: medians held to the past gains, then scaled by the attenuation stage.
+    /// A subframe of an erased frame: medians held to the past gains, then scaled by the attenuation stage.
     pub fn conceal(self, stage: usize) -> UsedGains
         requires { stage < 7 }
         ensures value { result ≡ concealed_gains (pos stage) self }
@@ -81,7 +81,7 @@ impl GainConcealment {
         }
     }
 
-    // A subframe of a good frame: after an erased frame each of its gains is at most that of the last good subframe; then they become those.
+    /// A subframe of a good frame: after an erased frame each of its gains is at most that of the last good subframe; then they become those.
     pub fn update_good(self, gains: Gains, erased: bool) -> UsedGains
         ensures value { result ≡ good_gains erased gains self }
         ensures kept { NotNegative gains → Kept self → Used result }

@@ -9,7 +9,7 @@ const PITCH_DOWN: [i16; 7] = [32767, 32112, 32112, 26214, 9830, 6553, 6553];
 // cdown
 const CODE_DOWN: [i16; 7] = [32767, 32112, 32112, 32112, 32112, 32112, 22937];
 
-// The pitch gain's at a stage.
+/// The pitch gain's at a stage.
 #[tactic(auto, using(basicop::proofs::Calls::read_back, crate::proofs::Factors::pdown_fits))]
 pub fn pitch_down(stage: usize) -> i16
     requires { stage < 7 }
@@ -18,7 +18,7 @@ pub fn pitch_down(stage: usize) -> i16
     PITCH_DOWN[stage]
 }
 
-// The code gain's at a stage.
+/// The code gain's at a stage.
 #[tactic(auto, using(basicop::proofs::Calls::read_back, crate::proofs::Factors::cdown_fits))]
 pub fn code_down(stage: usize) -> i16
     requires { stage < 7 }

@@ -137,7 +137,7 @@ const GAIN_TABLE: [[i16; 3]; 128] = [
     [18842, 32764, 18494],
 ];
 
-// The row of an index. The caller tested its range.
+/// The row of an index. The caller tested its range.
 #[tactic(auto, unfolding(crate::specs::Rows::gain_row, crate::specs::Rows::gain_table))]
 pub fn gain_row(index: usize) -> [i16; 3]
     requires { index < 128 }

@@ -7,14 +7,14 @@ ghost use Rattle.logarithm.specs.Pow2.{pow2};
 
 use basicop::{extract_h, interpolate, l_mult, l_shl, l_shr, l_shr_r, locate, norm_l, sub};
 
-// A logarithm to base 2: exponent, and fraction (Q15).
+/// A logarithm to base 2: exponent, and fraction (Q15).
 #[derive(Clone, Copy)]
 pub struct Logarithm {
     pub exponent: i16,
     pub fraction: i16,
 }
 
-// Zero or less gives 0.
+/// Zero or less gives 0.
 pub fn log2(value: i32, table: &[i16; 33]) -> Logarithm
     ensures { result ≡ log2 table.now value }
 {
@@ -33,7 +33,7 @@ pub fn log2(value: i32, table: &[i16; 33]) -> Logarithm
     }
 }
 
-// A fraction is not negative: the caller's is a half of L_Extract.
+/// A fraction is not negative: the caller's is a half of L_Extract.
 pub fn pow2(exponent: i16, fraction: i16, table: &[i16; 33]) -> i32
     requires { pos 0 ≤ℤ fraction }
     ensures { result ≡ pow2 table.now exponent fraction }

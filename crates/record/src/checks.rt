@@ -11,7 +11,7 @@ use super::{TAG, TRAILER_BYTES};
 use outcome::Refusal;
 use state::State;
 
-// What the bytes of a record hold: a state, and before the body a note of so many bytes.
+/// What the bytes of a record hold: a state, and before the body a note of so many bytes.
 #[derive(Clone, Copy)]
 pub struct Found {
     pub state: State,
@@ -58,7 +58,7 @@ fn state_before(before: &[u8], version: Version) -> Result<State, Refusal>
     }
 }
 
-// What a record holds, or 11 to 15: under 8 bytes, what the trailer shows, fewer bytes before it than a body has.
+/// What a record holds, or 11 to 15: under 8 bytes, what the trailer shows, fewer bytes before it than a body has.
 pub fn found_in(bytes: &[u8]) -> Result<Found, Refusal>
     ensures { Checked result (first_met (byte_checks bytes.now)) (λ f. (f.state ≡ state_of (numbers_in bytes.now)) × (f.note_length ≡ note_length bytes.now)) }
 {

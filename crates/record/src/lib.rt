@@ -22,20 +22,20 @@ const TAG: [u8; 2] = *b"M7";
 
 const FIELDS: [i16; 3] = [2, BODY_BYTES as i16, state::NUMBERS as i16];
 
-// A record without a note, as it is written: the body and the trailer.
+/// A record without a note, as it is written: the body and the trailer.
 pub const RECORD_BYTES: usize = BODY_BYTES + TRAILER_BYTES;
 
-// A version 1 record without a note.
+/// A version 1 record without a note.
 pub const FIRST_RECORD_BYTES: usize = SIGNAL_BYTES + TRAILER_BYTES;
 
-// The outcome and the state of a read.
+/// The outcome and the state of a read.
 #[derive(Drop)]
 pub struct Answer {
     pub outcome: Outcome,
     pub state: State,
 }
 
-// What the reader gives: the answer, and the note as that stretch of the caller's own bytes.
+/// What the reader gives: the answer, and the note as that stretch of the caller's own bytes.
 #[derive(Drop)]
 pub struct Reading<'a> {
     pub answer: Answer,
@@ -61,7 +61,7 @@ fn read_state(bytes: &[u8]) -> Result<Found, Refusal>
     Ok(found)
 }
 
-// Reads a record of either version. The note is what stands before the body: a part of the lent bytes, not a copy; none of them where the read is refused.
+/// Reads a record of either version. The note is what stands before the body: a part of the lent bytes, not a copy; none of them where the read is refused.
 pub fn read<'a>(bytes: &'a [u8]) -> Reading<'a>
     ensures { (read_result result.answer result.note.now ≡ read_call bytes.now) × (result.note.ref_ptr ≡ bytes.entry.ref_ptr) }
 {
@@ -80,7 +80,7 @@ pub fn read<'a>(bytes: &'a [u8]) -> Reading<'a>
     }
 }
 
-// What a read answers beside the note.
+/// What a read answers beside the note.
 pub fn answer_of(bytes: &[u8]) -> Answer
     ensures { result ≡ (read_call bytes.now).answer }
 {
@@ -88,7 +88,7 @@ pub fn answer_of(bytes: &[u8]) -> Answer
     answer
 }
 
-// The note of a read.
+/// The note of a read.
 pub fn note(bytes: &[u8]) -> &[u8]
     ensures { (result.now ≡ (read_call bytes.now).note) × (result.ref_ptr ≡ bytes.entry.ref_ptr) }
 {
@@ -113,7 +113,7 @@ fn write_record(state: State, out: &mut [u8; RECORD_BYTES])
     write_trailer(trailer.as_mut_array().unwrap());
 }
 
-// Writes the record of a state, without a note. Turned back, in this order: 5, the lent bytes are not as many as a record's; 16 to 19.
+/// Writes the record of a state, without a note. Turned back, in this order: 5, the lent bytes are not as many as a record's; 16 to 19.
 pub fn write(state: State, out: &mut [u8]) -> Outcome
     ensures { write_result result out.new ≡ write_call state out.old }
 {

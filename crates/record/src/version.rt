@@ -6,7 +6,7 @@ ghost use Rattle.record.specs.Inner.{trailer_by};
 use coding::{BODY_BYTES, SIGNAL_BYTES};
 use state::{NUMBERS, SIGNAL_NUMBERS};
 
-// The version that is written, which has every field of a state, and the first, which ends with the postfilter's.
+/// The version that is written, which has every field of a state, and the first, which ends with the postfilter's.
 #[derive(Clone, Copy)]
 pub enum Version {
     Current,
@@ -14,7 +14,7 @@ pub enum Version {
 }
 
 impl Version {
-    // The version of a number.
+    /// The version of a number.
     pub fn numbered(number: u16) -> Option<Version>
         ensures { MatchOption result (known number versions ≡ false) (λ v. (known number versions ≡ true) × (trailer_of number versions ≡ trailer_by v)) }
     {
@@ -25,7 +25,7 @@ impl Version {
         }
     }
 
-    // How far before the trailer the body begins: the bytes of the body.
+    /// How far before the trailer the body begins: the bytes of the body.
     pub fn distance(self) -> usize
         ensures { result ≡ (trailer_by self).distance }
     {
@@ -35,7 +35,7 @@ impl Version {
         }
     }
 
-    // How many numbers the body has.
+    /// How many numbers the body has.
     pub fn count(self) -> usize
         ensures { result ≡ (trailer_by self).count }
     {

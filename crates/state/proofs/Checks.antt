@@ -1,5 +1,5 @@
 -- What a state has shown that its checks accept, and that these accept no other.
-use Rattle.std.proofs.Common.{◌≡◌, refl, sym, ap, ◌∙◌, List, [], ◌∷◌, ◌++◌, ℕ, ◌+◌, ◌≤◌, ◌<◌, arith, ltb-false, le-ltb, ltb, true, false, ◌||◌, ℤ, pos, length, take, drop, length-append, length-take}
+use Rattle.std.proofs.Common.{◌≡◌, refl, sym, ap, ◌∙◌, List, [], ◌∷◌, ◌++◌, ℕ, ◌+◌, ◌≤◌, ◌<◌, arith, ltb-false, le-ltb, ltb, Bool, true, false, ◌||◌, ℤ, pos, length, take, drop, length-append, length-take}
 use lib.Seq.{get_or_at}
 use lib.Signed.{lt_z}
 use Rattle.std.proofs.lemmas.Bool.{or_parts}
@@ -17,6 +17,18 @@ use Rattle.state.proofs.Fields.{every_parts, kept_fields, fields_kept}
 pub use Rattle.state.specs.State.{Concealing, InRange}
 use Rattle.state.specs.State.{state_checks, state_outcome}
 
+-- ---- two tests, of which one turns a state back
+pub one_low : {a : Bool} (b : Bool) → a ≡ true → a || b ≡ true
+one_low b e = rw e refl
+
+pub one_high : (a : Bool) {b : Bool} → b ≡ true → a || b ≡ true
+one_high true e = refl
+one_high false e = e
+
+pub neither : {a b : Bool} → a ≡ false → b ≡ false → a || b ≡ false
+neither e f = rw (e, f) refl
+
+-- ---- what is accepted
 abbrev pub fields : Concealment → List ℤ
 fields c = gain_numbers c.gains ++ (c.erased ∷ [])
 

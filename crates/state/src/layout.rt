@@ -85,7 +85,7 @@ pub fn post_of(numbers: &[i16; POST_NUMBERS]) -> Postfilter
     }
 }
 
-// Fields 197 to 212.
+/// Fields 197 to 212.
 pub fn concealment_numbers(concealment: Concealment) -> [i16; CONCEALMENT_NUMBERS]
     ensures { result ≡ concealment_numbers concealment }
 {

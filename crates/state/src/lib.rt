@@ -14,7 +14,7 @@ pub use layout::{POST_NUMBERS, numbers_of, post_numbers, post_of, state_of};
 use outcome::{Outcome, Refusal};
 use postfilter::Postfilter;
 
-// What erased frames go by: fields 197 to 212 of the record, in its order.
+/// What erased frames go by: fields 197 to 212 of the record, in its order.
 #[derive(Clone, Copy)]
 pub struct Concealment {
     // the last lag, in whole samples
@@ -24,7 +24,7 @@ pub struct Concealment {
     pub erased: i16,
 }
 
-// In the record's order: the core's numbers (fields 0 to 174), the postfilter's (175 to 196) and the concealment's (197 to 212).
+/// In the record's order: the core's numbers (fields 0 to 174), the postfilter's (175 to 196) and the concealment's (197 to 212).
 #[derive(Clone, Copy)]
 pub struct State {
     pub core: Core,
@@ -48,12 +48,13 @@ pub fn formed(state: State)
 {}
 
 // 16 and 17: sharpening and smoothed gain.
-#[tactic(auto, unfolding(outcome::specs::Checks::first_met))]
 fn check_signal(state: State) -> Outcome
     ensures { result ≡ first_met (signal_checks state) }
 {
-    let outside = !(0..=13017).contains(&state.core.sharpening.0);
-    if outside {
+    let sharpening = state.core.sharpening.0;
+    let low = sharpening < 0;
+    let high = 13017 < sharpening;
+    if low || high {
         return Err(Refusal::Sharpening);
     }
     let below = state.post.gain.previous_gain < 0;
@@ -78,12 +79,12 @@ fn check_mark(concealment: Concealment) -> Outcome
 }
 
 // 19: the last lag outside 19..=144.
-#[tactic(auto, unfolding(outcome::specs::Checks::first_met))]
 fn check_lag(concealment: Concealment) -> Outcome
     ensures { result ≡ first_met (lag_checks concealment) }
 {
-    let outside = !(19..=144).contains(&concealment.last_lag);
-    if outside {
+    let low = concealment.last_lag < 19;
+    let high = 144 < concealment.last_lag;
+    if low || high {
         return Err(Refusal::LastLag);
     }
     Ok(())

@@ -1,5 +1,6 @@
 -- `conceal` meets its contract: each gain is the definition's, call by call.
-use Rattle.std.proofs.Common.{◌≡◌, sym, subst, pos, rules, w16, SFits, to_z, of_z, to_z-of_z}
+use Rattle.std.proofs.Common.{◌≡◌, refl, sym, subst, ◌∙◌, ℤ, pos, rules, w16, SFits, to_z, of_z, to_z-of_z}
+use Rattle.std.specs.Int.{int_min}
 use Rattle.lists.proofs.Signed.{got}
 use Rattle.gain_concealment.specs.Median.{median}
 use Rattle.gain_concealment.specs.Concealment.{held_to, concealed_gains}
@@ -8,15 +9,19 @@ use Rattle.gain_concealment.proofs.Ranges.{concealed_in_range}
 use Rattle.basicop.proofs.Range.{sfits_range}
 use Rattle.gain_concealment.proofs.GainConcealment.conceal.Goals as goal
 
+-- a gain held to a limit, each as a local has it
+held_by : {x y limit most : ℤ} → x ≡ y → limit ≡ most → int_min x limit ≡ held_to most y
+held_by e f = rw (e, f) refl
+
 pub returns-clause-value : goal.returns-clause-value
 unfolding concealed_gains
 returns-clause-value c =
     let past : SFits w16 c.args.self.past.pitch.0 = search rules in
     let past_code : SFits w16 c.args.self.past.code.0 = search rules in
     let pitch : to_z w16 (of_z w16 c.min-pitch.result) ≡ held_to c.args.self.past.pitch.0 (median c.args.self.pitch_history) =
-    cc (got w16 c.min-pitch.type_inv c.min-pitch.ensures.value, got w16 c.median.type_inv c.median.ensures.value, to_z-of_z past) in
+    got w16 c.min-pitch.type_inv (c.min-pitch.ensures.value ∙ held_by (got w16 c.median.type_inv c.median.ensures.value) (to_z-of_z past)) in
     let code : to_z w16 (of_z w16 c.min-code.result) ≡ held_to c.args.self.past.code.0 (median c.args.self.code_history) =
-    cc (got w16 c.min-code.type_inv c.min-code.ensures.value, got w16 c.median-2.type_inv c.median-2.ensures.value, to_z-of_z past_code) in
+    got w16 c.min-code.type_inv (c.min-code.ensures.value ∙ held_by (got w16 c.median-2.type_inv c.median-2.ensures.value) (to_z-of_z past_code)) in
     let down = got w16 c.pitch_down.type_inv c.pitch_down.ensures in
     let down_code = got w16 c.code_down.type_inv c.code_down.ensures in
     rw (c.update.ensures, got w16 c.mult.type_inv c.mult.ensures, got w16 c.mult-2.type_inv c.mult-2.ensures, pitch, code, down, down_code)
