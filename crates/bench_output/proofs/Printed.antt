@@ -57,8 +57,8 @@ number_served ys zs mid new c d next (came, line, took, writes, step) e = next_n
 abbrev pub NumberAtMost : Option Carried → ℕ → Type 0
 NumberAtMost next n = (c : Carried) → next ≡ Some c → c.number ≤ n
 
-pub numbered_first : (first : State) → NumberAtMost (Some (carried 1 first)) 1
-numbered_first first c e = omega (arith, ap number_of_some e)
+pub numbered_first : (first : State) (n : ℕ) → 1 ≤ n → NumberAtMost (Some (carried 1 first)) n
+numbered_first first n h c e = omega (arith, ap number_of_some e, h)
   where
     number_of_some : Option Carried → ℕ
     number_of_some None = 0

@@ -1,5 +1,5 @@
 -- The steps of any input print the whole output: round by round, a sheet's step prints its line and leaves the sheets after it.
-use Rattle.std.proofs.Common.{◌≡◌, refl, ap, ◌∙◌, sym, Bool, true, false, List, [], ◌∷◌, ◌++◌, append-nil, ℕ, zero, suc, ◌<◌, ◌≤◌, ◌*◌, arith, ne_eqb, eqb, length, take, drop, length-take, length-drop, Some, None}
+use Rattle.std.proofs.Common.{◌≡◌, refl, ap, ◌∙◌, sym, Bool, true, false, List, [], ◌∷◌, ◌++◌, append-nil, ℕ, zero, suc, ◌<◌, ◌≤◌, ◌*◌, arith, ne_eqb, eqb, length, take, drop, length-take, length-drop, Some}
 use Rattle.lists.specs.Parts.{joined}
 use Rattle.outcome.specs.Outcome.{number_of, is_accepted}
 use Rattle.record.specs.Record.{read_call}

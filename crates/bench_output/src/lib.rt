@@ -69,5 +69,4 @@ pub fn step(bytes: &[u8], carried: Carried) -> Step<Line, Carried>
 /// What the steps come to together.
 pub fn laws()
     ensures { StepsOutput }
-{
-}
+{}

@@ -104,7 +104,7 @@ mod tests {
         let bytes = input();
         let mut output = Vec::new(rt.alloc());
         assert!(rt; serve(&mut &bytes[..], &mut output).is_ok());
-        assert_eq!(rt; output.as_slice(), b"1 cut\n");
+        assert_eq!(rt; output.as_slice(), b"1 cut\n".as_slice());
         Ok(())
     }
 

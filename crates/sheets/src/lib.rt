@@ -200,7 +200,7 @@ mod tests {
         Ok(())
     }
 
-    // No sheet is cut by it.
+    // No sheet is cut by it, and no record.
     #[test]
     fn tells_a_failed_read(rt: HostRuntime) {
         let mut input = Slow {
@@ -210,5 +210,73 @@ mod tests {
         let mut bytes = [0u8; SHEET_BYTES];
         let read = read_full(&mut input, &mut bytes);
         assert!(rt; read.is_err());
+        input.given = 0;
+        let record = read_record(&mut input);
+        assert!(rt; matches!(record, Err(ProgramError::Read(_))));
+    }
+
+    // Counts its reads, of which the first may be interrupted, and gives what is asked for.
+    #[derive(Drop)]
+    struct Counting {
+        reads: u64,
+        interrupted: bool,
+    }
+
+    impl Read for Counting {
+        fn read(&mut self, buf: &mut [u8]) -> io::Result<usize> {
+            self.reads = self.reads.saturating_add(1);
+            if self.interrupted {
+                self.interrupted = false;
+                return Err(io::Error::from(ErrorKind::Interrupted));
+            }
+            buf.fill(5);
+            Ok(buf.len())
+        }
+    }
+
+    // What is full is not read for again.
+    #[test]
+    fn reads_no_more_than_is_asked_for(rt: HostRuntime) -> Result<(), Fail> {
+        let mut input = Counting {
+            reads: 0,
+            interrupted: false,
+        };
+        let mut bytes = [0u8; 3];
+        assert_eq!(rt; read_full(&mut input, &mut bytes)?, 3);
+        assert_eq!(rt; input.reads, 1);
+        Ok(())
+    }
+
+    #[test]
+    fn tries_an_interrupted_read_again(rt: HostRuntime) -> Result<(), Fail> {
+        let mut input = Counting {
+            reads: 0,
+            interrupted: true,
+        };
+        let mut bytes = [0u8; 3];
+        assert_eq!(rt; read_full(&mut input, &mut bytes)?, 3);
+        assert_eq!(rt; bytes, [5, 5, 5]);
+        assert_eq!(rt; input.reads, 2);
+        Ok(())
+    }
+
+    // Takes nothing.
+    #[derive(Drop)]
+    struct Full {}
+
+    impl Write for Full {
+        fn write(&mut self, _buf: &[u8]) -> io::Result<usize> {
+            Err(io::Error::from(ErrorKind::StorageFull))
+        }
+
+        fn flush(&mut self) -> io::Result<()> {
+            Ok(())
+        }
+    }
+
+    #[test]
+    fn tells_a_failed_write(rt: HostRuntime) {
+        let written = write_line(&mut Full {}, &lines::cut_line(1));
+        assert!(rt; matches!(written, Err(ProgramError::Write(_))));
     }
 }

@@ -109,7 +109,7 @@ mod tests {
         let bytes = input();
         let mut output = Vec::new(rt.alloc());
         assert!(rt; serve(&mut &bytes[..], &mut output).is_ok());
-        assert_eq!(rt; output.as_slice(), b"0 0 0 0 none\n");
+        assert_eq!(rt; output.as_slice(), b"0 0 0 0 none\n".as_slice());
         Ok(())
     }
 

@@ -4,7 +4,7 @@ use Rattle.bench_output.proofs.Printed.{printed_none, printed_more, printed_last
 use Rattle.bench_output.proofs.serving.run.Goals as goal
 
 pub loop-init : goal.loop-init
-loop-init g c = record { numbered = numbered_first _; printed = printed_none _ _ _ _ }
+loop-init g c = record { numbered = numbered_first _ _ (omega arith); printed = printed_none _ _ _ _ }
 
 pub serve_sheet-requires : goal.serve_sheet-requires
 serve_sheet-requires g c = omega (arith, c.loop.invariant.numbered _ c.in-Some.is)

@@ -9,5 +9,5 @@ invariant-loop g l =
     record {
       numbered : NumberAtMost l.next l.counter;
       printed : Printed (g.R.Read.remaining l.fn.input) (g.R.Read.remaining l.input) (g.W.Write.contents l.fn.output) (g.W.Write.contents l.output)
-      18446744073709551614 (carried 1 l.fn.first) (18446744073709551615 - l.counter) l.next;
+          18446744073709551614 (carried 1 l.fn.first) (18446744073709551615 - l.counter) l.next;
     }
