@@ -1,6 +1,6 @@
 -- What is lent, part by part.
-use Rattle.std.proofs.Common.{◌≡◌, refl, sym, ◌∙◌, subst, Bool, true, false, cond, List, [], ◌∷◌, ℕ, zero, suc, ◌≤◌, ◌<◌, arith, eqb, ℤ, pos, length, eqb-true}
-use lib.ListN.{length-replicate}
+use Rattle.std.proofs.Common.{◌≡◌, refl, sym, ap, ◌∙◌, subst, Bool, true, false, Option, Some, None, List, [], ◌∷◌, ℕ, zero, suc, ◌≤◌, ◌<◌, arith, ℤ, length, eqb, eqb-true}
+use Rattle.std.specs.Prelude.{MatchOption, is_ok}
 use Rattle.std.specs.Array.{list_steps}
 use Rattle.std.specs.Iterator.{Yields, CallableAtEachTurn}
 use Rattle.std.proofs.lemmas.Fn.{serves_by}
@@ -8,17 +8,17 @@ use Rattle.lists.specs.Lists.{Every}
 use Rattle.decoder.proofs.Results.{Held}
 use Rattle.state.specs.declared.State.{State}
 use Rattle.outcome.specs.Outcome.{is_accepted}
-use Rattle.coding.specs.Bytes.{bytes_of, Bytes}
-use Rattle.mr74.specs.Frame.{CallResult, frame_call}
-use Rattle.mr74.specs.Indexed.{indexed_call}
-use Rattle.mr74.specs.Erased.{erased_call}
-use Rattle.mr74.proofs.Passed.{passed}
-use Rattle.mr74.proofs.IndexPassed.{index_passed}
-use Rattle.mr74.proofs.ErasedPassed.{erased_passed}
-use Rattle.mr74.proofs.Places.{frame_places, indexed_places, erased_places}
-use Rattle.capi.specs.Capi.{sample_count, out_length, room_of, room_in, out_after}
-use Rattle.capi.specs.Energies.{frame_result}
-use Rattle.capi.proofs.Codes.{frame_outcome_lem, indexed_outcome_lem, erased_outcome_lem}
+use Rattle.outcome.proofs.Variants.{accepted_is_ok}
+use Rattle.coding.specs.Bytes.{Bytes}
+use Rattle.kinds.specs.Kind.{SheetKind, kind_of}
+use Rattle.mr74.specs.declared.EnergiesAnswer.{EnergiesAnswer}
+use Rattle.mr74.specs.Frame.{EnergiesResult, energies_result}
+use Rattle.mr74.specs.Inner.{kind_call}
+use Rattle.mr74.proofs.Places.{call_places}
+use Rattle.kinds.proofs.Passed.{passed}
+use Rattle.capi.specs.Capi.{no_numbers, lent_numbers}
+use Rattle.capi.specs.Frames.{out_length, room_in}
+use Rattle.capi.proofs.Codes.{traced_outcome}
 
 -- ---- the places
 -- the places of an answer are bytes
@@ -41,44 +41,30 @@ called_at_bytes {R = R} {Q} {f} bytes b keeps may =
     list_steps Q bytes f refl
     (λ xs rest q x u y h e. rw e (may x (subst Bytes h (left_bytes xs bytes rest y b) 0)))
 
-pub frame_bytes_lem : (sheet : List ℤ) (s : State) (out : List ℤ) → Held s.core → Bytes (frame_call sheet s out).answer.places
-frame_bytes_lem sheet s out h = places_bytes (frame_call sheet s out).answer.places (frame_places sheet s out h)
+pub frame_places : (k : SheetKind) (energies sheet : List ℤ) (s : State) (out : List ℤ) → Held s.core → Bytes (kind_call (kind_of k) energies sheet s out).answer.frame.places
+unfolding kind_call
+frame_places k energies sheet s out h = places_bytes _ (call_places k energies sheet s out h)
 
-pub indexed_bytes_lem : (logs pows energies sheet : List ℤ) (s : State) (out : List ℤ) → Held s.core → Bytes (indexed_call logs pows energies sheet s out).answer.frame.places
-indexed_bytes_lem logs pows energies sheet s out h = places_bytes (indexed_call logs pows energies sheet s out).answer.frame.places (indexed_places logs pows energies sheet s out h)
+-- ---- what is lent, as numbers
+pub handed_on : (o : Option (List ℤ)) {N count : ℕ} → N ≡ count → (bytes : List ℕ) {handed : List ℤ}
+    → MatchOption o (lent_numbers N bytes ≡ no_numbers) (λ numbers. numbers ≡ lent_numbers N bytes) → MatchOption o (handed ≡ no_numbers) (λ numbers. handed ≡ numbers)
+    → handed ≡ lent_numbers count bytes
+handed_on None en bytes e h = rw (← en) (h ∙ sym e)
+handed_on (Some numbers) en bytes e h = rw (← en) (h ∙ e)
 
-pub erased_bytes_lem : (energies sheet : List ℤ) (s : State) (out : List ℤ) → Held s.core → Bytes (erased_call energies sheet s out).answer.frame.places
-erased_bytes_lem energies sheet s out h = places_bytes (erased_call energies sheet s out).answer.frame.places (erased_places energies sheet s out h)
-
--- ---- the output: an accepted call was lent all its bytes
-room_all : (bytes : ℕ) → ◌≡◌ {A = ℕ} (room_of bytes) sample_count → bytes ≡ out_length
-room_all bytes = go (eqb bytes out_length) refl
+-- an accepted call was lent all the bytes of its samples
+room_is : (out : List ℕ) → length (room_in out) ≡ 160 → length out ≡ out_length
+room_is out h = go (eqb (length out) out_length) refl
   where
-    go : (b : Bool) → eqb bytes out_length ≡ b → ◌≡◌ {A = ℕ} (cond b sample_count 0) sample_count → bytes ≡ out_length
-    go true e h = eqb-true bytes out_length e
-    go false e h = absurd (omega (arith, h))
+    go : (b : Bool) → eqb (length out) out_length ≡ b → length out ≡ out_length
+    go true e = eqb-true _ _ e
+    go false e = let z : 0 ≡ 160 = rw e at h in absurd (omega (arith, z))
 
--- so what is left of another output is that output
-no_room : (c : CallResult) (out : List ℕ) → (is_accepted c.answer.outcome ≡ true → length (room_in out) ≡ sample_count) → (length out ≡ out_length → ⊥) → out ≡ out_after c out
-no_room c out lent n = go (is_accepted c.answer.outcome) refl
-  where
-    go : (b : Bool) → is_accepted c.answer.outcome ≡ b → out ≡ cond b (bytes_of c.lent) out
-    go true e = absurd (n (room_all (length out) (sym (length-replicate (room_of (length out)) (pos 0)) ∙ lent e)))
-    go false e = refl
-
-pub no_frame_room : (sheet : List ℤ) (s : State) (out : List ℕ) → (length out ≡ out_length → ⊥) → out ≡ out_after (frame_call sheet s (room_in out)) out
-no_frame_room sheet s out =
-    no_room (frame_call sheet s (room_in out)) out
-    (λ e. (passed sheet s (length (room_in out)) (rw (frame_outcome_lem sheet s (room_in out)) at e)).lent)
-
-pub no_indexed_room : (logs pows energies sheet : List ℤ) (s : State) (out : List ℕ) → (length out ≡ out_length → ⊥)
-    → out ≡ out_after (frame_result (indexed_call logs pows energies sheet s (room_in out))) out
-no_indexed_room logs pows energies sheet s out =
-    no_room (frame_result (indexed_call logs pows energies sheet s (room_in out))) out
-    (λ e. (index_passed logs pows sheet s (length (room_in out)) (rw (indexed_outcome_lem logs pows energies sheet s (room_in out)) at e)).lent)
-
-pub no_erased_room : (energies sheet : List ℤ) (s : State) (out : List ℕ) → (length out ≡ out_length → ⊥)
-    → out ≡ out_after (frame_result (erased_call energies sheet s (room_in out))) out
-no_erased_room energies sheet s out =
-    no_room (frame_result (erased_call energies sheet s (room_in out))) out
-    (λ e. (erased_passed sheet s (length (room_in out)) (rw (erased_outcome_lem energies sheet s (room_in out)) at e)).lent)
+pub room_all : (k : SheetKind) (energies sheet : List ℤ) (s : State) (room : List ℤ) (out : List ℕ) → length room ≡ length (room_in out)
+    → {answer : EnergiesAnswer} {lent : List ℤ} → energies_result answer lent ≡ kind_call (kind_of k) energies sheet s room → is_ok answer.frame.outcome ≡ true
+    → (length room ≡ 160) × (length out ≡ out_length)
+unfolding kind_call
+room_all k energies sheet s room out l {answer} e h =
+    let o = ap (λ (r : EnergiesResult). r.answer.frame.outcome) e ∙ traced_outcome (kind_of k) energies sheet s room in
+    let lent = (passed k sheet s (length room) (ap is_accepted (sym o) ∙ sym (accepted_is_ok answer.frame.outcome) ∙ h)).lent in
+    (lent, room_is out (sym l ∙ lent))

@@ -1,6 +1,6 @@
 -- The outcomes of the calls, and what their places lie in, so that number and place go into one number.
 use Rattle.std.proofs.Common.{◌≡◌, refl, Bool, true, false, List, ℕ, ◌≤◌, ◌<◌, ℤ, length}
-use Rattle.outcome.specs.Outcome.{Outcome, place_of, is_accepted}
+use Rattle.outcome.specs.Outcome.{place_of, is_accepted}
 use Rattle.outcome.specs.Checks.{first_met}
 use Rattle.outcome.proofs.Checks.{placed_append, none_placed, place_low}
 use Rattle.state.specs.declared.State.{State}
@@ -11,46 +11,24 @@ use Rattle.record.specs.Record.{numbers_in, byte_checks, record_checks, record_o
 use Rattle.record.proofs.Reader.{outcome_is}
 use Rattle.gain.specs.Call.{decode_checks, gain_call}
 use Rattle.gain.proofs.Groups.{decode_placed}
-use Rattle.mr74.specs.Prepass.{Prepared}
-use Rattle.mr74.specs.Checks.{frame_outcome, indexed_outcome, erased_outcome}
-use Rattle.mr74.specs.Sheet.{frame_prepared}
-use Rattle.mr74.specs.Frame.{trace_by, frame_trace, frame_call}
-use Rattle.mr74.specs.Indexed.{indexed_prepared, opened_memory, indexed_call}
-use Rattle.mr74.specs.Erased.{erased_prepared, erased_call}
-use Rattle.mr74.proofs.Groups.{outcome_place, indexed_place, erased_place}
+use Rattle.kinds.specs.Kind.{Kind, SheetKind, kind_of, call_outcome}
+use Rattle.kinds.proofs.Groups.{call_place}
+use Rattle.mr74.specs.Frame.{call_trace}
+use Rattle.mr74.specs.Inner.{kind_call}
 
--- a frame's outcome is the one that it is made of
-pub traced_outcome : (o : Outcome) (p : Prepared) (s : State) (out : List ℤ) → (trace_by o p s out).outcome ≡ o
-traced_outcome o p s out = go (is_accepted o) refl
+-- a trace's outcome is what its checks come to
+pub traced_outcome : (kind : Kind) (energies sheet : List ℤ) (s : State) (out : List ℤ) → (call_trace kind energies sheet s out).outcome ≡ call_outcome kind sheet s (length out)
+unfolding call_trace
+traced_outcome kind energies sheet s out = go (is_accepted (call_outcome kind sheet s (length out))) refl
   where
-    go : (b : Bool) → is_accepted o ≡ b → (trace_by o p s out).outcome ≡ o
-    go true e = rw e
-    go false e = rw e
-
-pub frame_outcome_lem : (sheet : List ℤ) (s : State) (out : List ℤ) → (frame_call sheet s out).answer.outcome ≡ frame_outcome sheet s (length out)
-unfolding frame_call frame_trace
-frame_outcome_lem sheet s out = traced_outcome (frame_outcome sheet s (length out)) (frame_prepared sheet s.concealment) s out
-
-pub indexed_outcome_lem : (logs pows energies sheet : List ℤ) (s : State) (out : List ℤ)
-    → (indexed_call logs pows energies sheet s out).answer.frame.outcome ≡ indexed_outcome logs pows sheet s (length out)
-unfolding indexed_call
-indexed_outcome_lem logs pows energies sheet s out =
-    traced_outcome (indexed_outcome logs pows sheet s (length out)) (indexed_prepared logs pows sheet s.concealment (opened_memory energies s)).frame s out
-
-pub erased_outcome_lem : (energies sheet : List ℤ) (s : State) (out : List ℤ) → (erased_call energies sheet s out).answer.frame.outcome ≡ erased_outcome sheet s (length out)
-unfolding erased_call
-erased_outcome_lem energies sheet s out = traced_outcome (erased_outcome sheet s (length out)) (erased_prepared sheet s.concealment) s out
+    go : (b : Bool) → is_accepted (call_outcome kind sheet s (length out)) ≡ b → (call_trace kind energies sheet s out).outcome ≡ call_outcome kind sheet s (length out)
+    go true e = rw e refl
+    go false e = rw e refl
 
 -- of a state whose fives are no longer than fives
-module _ (s : State) (l : length (fields s.concealment) ≤ 15) where
-  pub frame_place : (sheet out : List ℤ) → place_of (frame_call sheet s out).answer.outcome < 256
-  frame_place sheet out = rw (frame_outcome_lem sheet s out) (outcome_place s l sheet (length out))
-
-  pub index_place : (logs pows energies sheet out : List ℤ) → place_of (indexed_call logs pows energies sheet s out).answer.frame.outcome < 256
-  index_place logs pows energies sheet out = rw (indexed_outcome_lem logs pows energies sheet s out) (indexed_place s l logs pows sheet (length out))
-
-  pub erasure_place : (energies sheet out : List ℤ) → place_of (erased_call energies sheet s out).answer.frame.outcome < 256
-  erasure_place energies sheet out = rw (erased_outcome_lem energies sheet s out) (erased_place s l sheet (length out))
+pub frame_place : (k : SheetKind) (energies sheet : List ℤ) (s : State) (out : List ℤ) → length (fields s.concealment) ≤ 15 → place_of (kind_call (kind_of k) energies sheet s out).answer.frame.outcome < 256
+unfolding kind_call
+frame_place k energies sheet s out l = rw (traced_outcome (kind_of k) energies sheet s out) (call_place k sheet s (length out) l)
 
 pub gain_place : (logs pows : List ℤ) (index : ℤ) (innovation energies : List ℤ) → place_of (gain_call logs pows index innovation energies).outcome < 256
 unfolding gain_call

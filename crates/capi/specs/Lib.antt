@@ -1,4 +1,3 @@
 pub mod Capi
-pub mod Energies
-pub mod Indexed
-pub mod Erased
+pub mod Frames
+pub mod Gains

@@ -1,37 +1,44 @@
-// The frame call over bytes: its sheet, its samples, and what its answer leaves in what was lent.
-ghost use Rattle.std.specs.Prelude.{◌≡◌, ◌<◌};
+// The frame call over bytes, of any kind: its sheet, its samples, and what its answer leaves in what was lent.
+ghost use Rattle.std.specs.Prelude.{◌≡◌, ◌<◌, length};
 ghost use Rattle.outcome.specs.Outcome.{place_of};
-ghost use Rattle.mr74.specs.Frame.{call_result, frame_call};
+ghost use Rattle.kinds.specs.Kind.{kind_of};
+ghost use Rattle.kinds.specs.Checked.{lent_kind};
+ghost use Rattle.mr74.specs.Inner.{kind_call};
 ghost use Rattle.coding.specs.Bytes.{Bytes};
-ghost use Rattle.capi.specs.Capi.{code_of, sheet_in, room_in, out_after, row_bytes, state_bytes};
+ghost use Rattle.capi.specs.Capi.{code_of, lent_numbers, state_bytes};
+ghost use Rattle.capi.specs.Frames.{energy_count, room_in, out_after, row_bytes, frame_return, kind_after, kind_bytes};
 
-use super::lent::lent_numbers;
-use super::{OUT_BYTES, PLACES_BYTES, ROWS_BYTES, STATE_BYTES, code};
+use super::lent::{as_lent, energies_in, lent_numbers, write_energies};
+use super::{ENERGIES_BYTES, OUT_BYTES, PLACES_BYTES, ROWS_BYTES, STATE_BYTES, UNFIT, code};
+use gain::GainDecoder;
 use lpc::Rows;
-use mr74::{FrameAnswer, SAMPLES, SHEET};
+use mr74::{EnergiesAnswer, FrameAnswer, SAMPLES, SheetKind};
 use state::State;
 
-// The call of a sheet's bytes.
-fn frame_in(sheet: &[u8], state: State, samples: &mut [i16]) -> FrameAnswer
-    ensures { call_result result samples.new ≡ frame_call (sheet_in sheet.now) state samples.old }
+// The room for samples in an output: none where it has another length than theirs. No call takes so little: it refuses the output by 5.
+fn room_of(out: &[u8]) -> usize
+    ensures { result ≡ length (room_in out.now) }
 {
-    let numbers: Option<[i16; SHEET]> = lent_numbers(sheet);
-    mr74::frame(numbers.as_slice().as_flattened(), state, samples)
+    if out.len() == OUT_BYTES { SAMPLES } else { 0 }
 }
 
-// The same with the samples' bytes. An output of another length has no room for samples, which the call refuses.
-#[tactic(auto, using(crate::proofs::Buffers::no_frame_room))]
-pub fn frame_out(sheet: &[u8], state: State, out: &mut [u8]) -> FrameAnswer
-    ensures value { result ≡ (frame_call (sheet_in sheet.now) state (room_in out.old)).answer }
-    ensures out_after { out.new ≡ out_after (frame_call (sheet_in sheet.now) state (room_in out.old)) out.old }
+// The call of a sheet's numbers, with the samples' bytes.
+fn call_out(
+    kind: SheetKind<'_>,
+    sheet: &[i16],
+    state: State,
+    energies: GainDecoder,
+    out: &mut [u8],
+) -> EnergiesAnswer
+    ensures value { result ≡ (kind_call (kind_of (lent_kind kind.entry)) energies.energies sheet.now state (room_in out.old)).answer }
+    ensures out_after { out.new ≡ out_after result.frame.outcome (kind_call (kind_of (lent_kind kind.entry)) energies.energies sheet.now state (room_in out.old)).lent out.old }
 {
-    if out.len() != OUT_BYTES {
-        return frame_in(sheet, state, &mut []);
-    }
     let mut samples = [0i16; SAMPLES];
-    let answer = frame_in(sheet, state, &mut samples);
-    if answer.outcome.is_ok() {
-        coding::put(out, &samples);
+    let room = &mut samples[..room_of(out)];
+    let answer = mr74::call(kind, sheet, state, energies, room);
+    let accepted = answer.frame.outcome.is_ok();
+    if accepted {
+        coding::put(out, room);
     }
     answer
 }
@@ -51,8 +58,8 @@ fn place_bytes(places: [usize; 4]) -> [u8; PLACES_BYTES]
     places.map(|place| place as u8)
 }
 
-// What an answer leaves in what was lent beside the output.
-pub fn give(
+// What an answer leaves in what was lent beside output and energies.
+fn give(
     answer: FrameAnswer,
     state: &mut [u8; STATE_BYTES],
     rows: &mut [u8; ROWS_BYTES],
@@ -68,4 +75,58 @@ pub fn give(
     write_rows(answer.rows, rows);
     *places = place_bytes(answer.places);
     code(answer.outcome)
+}
+
+// The call of any kind, whose sheet has N numbers, with state, rows, places and energies of their lengths.
+fn call_fit<const N: usize>(
+    kind: SheetKind<'_>,
+    sheet: &[u8],
+    state: &mut [u8; STATE_BYTES],
+    out: &mut [u8],
+    rows: &mut [u8; ROWS_BYTES],
+    places: &mut [u8; PLACES_BYTES],
+    energies: &mut [u8; ENERGIES_BYTES],
+) -> u32
+    requires { N ≡ (kind_of (lent_kind kind)).count }
+    ensures { frame_return result state.new out.new rows.new places.new energies.new ≡ kind_after (kind_of (lent_kind kind.entry)) sheet.now state.old out.old energies.old }
+{
+    let numbers: Option<[i16; N]> = lent_numbers(sheet);
+    let opened = energies_in(energies);
+    let answer = call_out(
+        kind,
+        as_lent(&numbers),
+        coding::state_in(state),
+        opened,
+        out,
+    );
+    write_energies(answer.gain_decoder, energies);
+    give(answer.frame, state, rows, places)
+}
+
+// The same of what is lent. What no refusal speaks of is tested here, once, before every refusal: where it has another length nothing is changed.
+pub fn call<const N: usize>(
+    kind: SheetKind<'_>,
+    sheet: &[u8],
+    state: &mut [u8],
+    out: &mut [u8],
+    rows: &mut [u8],
+    places: &mut [u8],
+    energies: &mut [u8],
+) -> u32
+    requires { N ≡ (kind_of (lent_kind kind)).count }
+    ensures { frame_return result state.new out.new rows.new places.new energies.new ≡ kind_bytes (kind_of (lent_kind kind.entry)) energy_count sheet.now state.old out.old rows.old places.old energies.old }
+{
+    let Some(state) = state.as_mut_array() else {
+        return UNFIT;
+    };
+    let Some(rows) = rows.as_mut_array() else {
+        return UNFIT;
+    };
+    let Some(places) = places.as_mut_array() else {
+        return UNFIT;
+    };
+    let Some(energies) = energies.as_mut_array() else {
+        return UNFIT;
+    };
+    call_fit::<N>(kind, sheet, state, out, rows, places, energies)
 }

@@ -2,12 +2,13 @@
 ghost use Rattle.std.specs.Prelude.{◌≡◌};
 ghost use Rattle.coding.specs.Bytes.{words};
 ghost use Rattle.gain.specs.Call.{gain_call};
-ghost use Rattle.capi.specs.Indexed.{table_in, gain_pair_bytes, gain_return, gain_bytes};
+ghost use Rattle.capi.specs.Frames.{table_in};
+ghost use Rattle.capi.specs.Gains.{gain_pair_bytes, gain_return, gain_bytes, GainUnchanged};
 
-use super::lent::{energies_in, lent_numbers, write_energies};
+use super::lent::{as_lent, energies_in, lent_numbers, write_energies};
 use super::{GAINS_BYTES, INNOVATION_BYTES, TABLE, UNFIT, code};
-use basicop::Q13;
-use gain::{GainAnswer, GainDecoder, Gains};
+use basicop::{Gains, Q13};
+use gain::{GainAnswer, GainDecoder};
 
 // The call of the bytes of an innovation and of the tables.
 fn decode_in(
@@ -22,12 +23,7 @@ fn decode_in(
     let logs: Option<[i16; TABLE]> = lent_numbers(log_table);
     let pows: Option<[i16; TABLE]> = lent_numbers(pow_table);
     let sharpened = Q13(coding::numbers_in(innovation));
-    energies.decode(
-        index,
-        sharpened,
-        logs.as_slice().as_flattened(),
-        pows.as_slice().as_flattened(),
-    )
+    energies.decode(index, sharpened, as_lent(&logs), as_lent(&pows))
 }
 
 // The bytes of pitch gain and code gain.
@@ -37,8 +33,8 @@ fn write_gains(gains: Gains, out: &mut [u8; GAINS_BYTES])
     coding::put(out, &[gains.pitch.0, gains.code.0]);
 }
 
-// The gains of one index. Accepted: pitch gain and code gain in `gains`, the energies after the subframe in `energies`; refused: 0 and 0, and the
-// energies stay. Returns number + 256 * place, or 255 where innovation, energies or gains has another length, and nothing is changed.
+/// The gains of one index. Accepted: pitch gain and code gain in `gains`, the energies after the subframe in `energies`; refused: 0 and 0, and the
+/// energies stay. Returns number + 256 * place, or 255 where innovation, energies or gains has another length, and nothing is changed.
 pub fn mr74_gain_decode(
     index: i16,
     innovation: &[u8],
@@ -65,7 +61,13 @@ pub fn mr74_gain_decode(
         pow_table,
         energies_in(energies),
     );
-    write_energies(answer.gains.next, energies);
+    write_energies(answer.gain_decoder, energies);
     write_gains(answer.gains, gains);
     code(answer.outcome)
+}
+
+/// What a caller may rely on: a refused call of one index leaves the lent energies as they were. A law; it does nothing.
+pub fn gain_unchanged()
+    ensures { GainUnchanged }
+{
 }

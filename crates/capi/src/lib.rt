@@ -1,21 +1,19 @@
 // The frame calls, the call of a gain's index, the reader and the writer over bytes; the crate capi_c exports them for C and Rust (c/mr74.h).
 #![tactic(auto)]
 
-ghost use Rattle.std.specs.Prelude.{◌≡◌, ◌<◌};
+ghost use Rattle.std.specs.Prelude.{◌≡◌, ◌<◌, []};
 ghost use Rattle.outcome.specs.Outcome.{place_of};
-ghost use Rattle.capi.specs.Capi.{code_of, frame_return, frame_bytes, read_return, read_bytes, write_return, write_bytes};
+ghost use Rattle.capi.specs.Capi.{code_of, read_return, read_bytes, write_return, write_bytes};
+ghost use Rattle.capi.specs.Frames.{frame_return, frame_bytes, index_bytes, erased_bytes, RefusedUnchanged};
 
-mod erased;
 mod frames;
 mod gains;
-mod indexed;
 mod lent;
 
-pub use erased::mr74_frame_erased;
-use frames::{frame_out, give};
-pub use gains::mr74_gain_decode;
-pub use indexed::mr74_frame_indexed;
-use mr74::SAMPLES;
+use frames::call;
+pub use gains::{gain_unchanged, mr74_gain_decode};
+use lent::{as_lent, lent_numbers};
+use mr74::{ERASED_SHEET, INDEX_SHEET, SAMPLES, SHEET, SheetKind};
 use outcome::Outcome;
 
 // How long the other buffers are: two bytes for each number, one for each place.
@@ -49,8 +47,9 @@ fn code(outcome: Outcome) -> u32
     number + 256 * place
 }
 
-// The frame call. Accepted: the samples in `out`, the next state in `state`; refused: both stay. Rows and places are the answer's either way.
-// Returns number + 256 * place, or 255 where state, rows or places has another length, and nothing is changed.
+// ---- the frame calls
+/// The frame call. Accepted: the samples in `out`, the next state in `state`; refused: both stay. Rows and places are the answer's either way. Returns
+/// number + 256 * place, or 255 where state, rows or places has another length, and nothing is changed.
 pub fn mr74_frame(
     sheet: &[u8],
     state: &mut [u8],
@@ -58,23 +57,64 @@ pub fn mr74_frame(
     rows: &mut [u8],
     places: &mut [u8],
 ) -> u32
-    ensures { frame_return result state.new out.new rows.new places.new ≡ frame_bytes sheet.now state.old out.old rows.old places.old }
+    ensures { frame_return result state.new out.new rows.new places.new [] ≡ frame_bytes sheet.now state.old out.old rows.old places.old }
 {
-    let Some(state) = state.as_mut_array() else {
-        return UNFIT;
-    };
-    let Some(rows) = rows.as_mut_array() else {
-        return UNFIT;
-    };
-    let Some(places) = places.as_mut_array() else {
-        return UNFIT;
-    };
-    let answer = frame_out(sheet, coding::state_in(state), out);
-    give(answer, state, rows, places)
+    // No energies are lent, and a frame sheet goes by none: any stand for them.
+    let mut energies = [0u8; ENERGIES_BYTES];
+    call::<SHEET>(
+        SheetKind::Frame,
+        sheet,
+        state,
+        out,
+        rows,
+        places,
+        &mut energies,
+    )
+}
+
+/// `mr74_frame` of an index sheet, with the tables of logarithm and power and the past energies. Accepted: the subframes' energies are in `energies`;
+/// refused: they stay. Returns 255 where `energies` has another length, too.
+pub fn mr74_frame_indexed(
+    sheet: &[u8],
+    state: &mut [u8],
+    out: &mut [u8],
+    rows: &mut [u8],
+    places: &mut [u8],
+    log_table: &[u8],
+    pow_table: &[u8],
+    energies: &mut [u8],
+) -> u32
+    ensures { frame_return result state.new out.new rows.new places.new energies.new ≡ index_bytes sheet.now state.old out.old rows.old places.old log_table.now pow_table.now energies.old }
+{
+    let logs: Option<[i16; TABLE]> = lent_numbers(log_table);
+    let pows: Option<[i16; TABLE]> = lent_numbers(pow_table);
+    let kind = SheetKind::Index(as_lent(&logs), as_lent(&pows));
+    call::<INDEX_SHEET>(kind, sheet, state, out, rows, places, energies)
+}
+
+/// `mr74_frame` of an erased sheet, with the past energies. Accepted: they are stepped once a subframe; refused: they stay. Returns 255 where `energies` has
+/// another length, too.
+pub fn mr74_frame_erased(
+    sheet: &[u8],
+    state: &mut [u8],
+    out: &mut [u8],
+    rows: &mut [u8],
+    places: &mut [u8],
+    energies: &mut [u8],
+) -> u32
+    ensures { frame_return result state.new out.new rows.new places.new energies.new ≡ erased_bytes sheet.now state.old out.old rows.old places.old energies.old }
+{
+    call::<ERASED_SHEET>(SheetKind::Erased, sheet, state, out, rows, places, energies)
+}
+
+/// What a caller may rely on: a refused call of any kind leaves the lent state, output and energies as they were. A law; it does nothing.
+pub fn refused_unchanged()
+    ensures { RefusedUnchanged }
+{
 }
 
 // ---- the reader
-// The record's reader: the state in `state`, the length of the note, which is what the record begins with, in `note`; both zero where it refuses.
+/// The record's reader: the state in `state`, the length of the note, which is what the record begins with, in `note`; both zero where it refuses.
 pub fn mr74_read(bytes: &[u8], state: &mut [u8], note: &mut usize) -> u32
     ensures { read_return result state.new note.new ≡ read_bytes bytes.now state.old note.old }
 {
@@ -88,7 +128,7 @@ pub fn mr74_read(bytes: &[u8], state: &mut [u8], note: &mut usize) -> u32
 }
 
 // ---- the writer
-// The record's writer: the record of `state` in `bytes`, which stay as they are where it refuses.
+/// The record's writer: the record of `state` in `bytes`, which stay as they are where it refuses.
 pub fn mr74_write(state: &[u8], bytes: &mut [u8]) -> u32
     ensures { write_return result bytes.new ≡ write_bytes state.now bytes.old }
 {

@@ -14,8 +14,8 @@ ghost use Rattle.mr74.specs.Inner.{kind_call, refused_answer};
 
 use decoder::CoreOutput;
 use gain::GainDecoder;
-pub use kinds::{ERASED_SHEET, INDEX_SHEET, SAMPLES, SHEET};
-use kinds::{GainMemory, Prepared, SheetKind, check_call};
+pub use kinds::{ERASED_SHEET, INDEX_SHEET, SAMPLES, SHEET, SheetKind};
+use kinds::{GainMemory, Prepared, check_call};
 use lpc::Rows;
 use outcome::{Outcome, Refusal};
 use postfilter::Postfiltered;
@@ -102,8 +102,8 @@ fn refused(refusal: Refusal, state: State, gain_decoder: GainDecoder) -> Energie
     }
 }
 
-// A call of any kind.
-fn call(
+/// A call of any kind, of which the three below are fronts. A frame sheet's goes by no energies.
+pub fn call(
     kind: SheetKind<'_>,
     sheet: &[i16],
     state: State,
