@@ -1,5 +1,6 @@
--- Concrete: what premises ask of lists that are written out. The others: the files of specs/ by the same names.
+-- Concrete: what premises ask of lists that are written out. Accepting: a sheet that its checks let pass. The others: the files of specs/ by the same names.
 pub mod Concrete
+pub mod Accepting
 pub mod Starred
 pub mod Examples
 pub mod Refusals

@@ -1,4 +1,4 @@
--- Demand 3 applied: what `every_list_as_measured` gives of the list `calls` from the state `silent`. Nothing here is said by a statement of measure/specs/CallList.antt:
+-- What `every_list_as_measured` gives of the list `calls` from the state `silent`. Nothing here is said by a statement of measure/specs/CallList.antt:
 -- each of its clauses is written out, with its premise met. The theorems are in proofs/CallList.antt.
 use Rattle.std.specs.Prelude.{◌≡◌, true, false, [], ◌∷◌, map, ℕ, ◌≤◌, ℤ, pos, negsuc, length, ◌≤ℤ◌}
 use Rattle.lists.specs.Lists.{at, Every}
