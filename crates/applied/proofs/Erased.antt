@@ -62,13 +62,14 @@ use Rattle.mr74.proofs.Indexed.{index_is_frame}
 use Rattle.calls.specs.Calls.{trace_of, next_state, accepted, SheetFits}
 use Rattle.calls.proofs.Calls.{next_accepted, next_well_formed}
 use Rattle.applied.specs.Examples.{silent}
+use Rattle.applied.specs.CallList.{AsPlaced}
 use Rattle.applied.specs.Gains.{log_table, pow_table}
 use Rattle.applied.specs.Indexed.{index_sheet, out}
-use Rattle.applied.specs.Erased.{erased_sheet, good_sheet, lost, lost_result, ErasedValues, erased_ordered, ErasedOrder, fives, lost_call, GainsIn, ErasedApplied, stage_7, after_lost, HeldIndexed, ErasedList}
+use Rattle.applied.specs.Erased.{erased_sheet, good_sheet, lost, lost_result, ErasedValues, erased_ordered, ErasedOrder, fives, lost_call, GainsIn, ErasedApplied, stage_7, later_calls, after_lost, HeldIndexed, ErasedList}
 use Rattle.applied.proofs.Accepting.{SheetPasses, accepted_at}
 use Rattle.applied.proofs.Concrete.{fits_by}
 use Rattle.applied.proofs.Examples.{example}
-use Rattle.applied.proofs.CallList.{two_calls}
+use Rattle.applied.proofs.CallList.{two_calls, by_place}
 
 lost_accepted : call_outcome erased_kind (erased_sheet (pos 0)) silent 160 ≡ Ok tt
 unfolding silent erased_sheet state_of core_of post_of concealment_of first_met first_outside first_close call_outcome
@@ -214,4 +215,9 @@ unfolding call_trace call_outcome first_met first_outside first_close erased_she
 second_refused = refl
 
 pub erased_list : ErasedList
-erased_list = two_calls silent example.well_formed example.state lost_call stage_7 _ call_accepted second_refused
+erased_list =
+    two_calls silent example.well_formed example.state lost_call stage_7 later_calls _ AsPlaced AsPlaced AsPlaced AsPlaced call_accepted second_refused refl
+    (by_place _)
+    (by_place _)
+    (by_place _)
+    (by_place _)

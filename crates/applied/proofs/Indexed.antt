@@ -27,10 +27,11 @@ use Rattle.mr74.specs.Indexed.{decoded_sheet, SameAsFrame}
 use Rattle.mr74.proofs.Indexed.{index_is_frame}
 use Rattle.calls.specs.Calls.{trace_of, next_state, accepted}
 use Rattle.applied.specs.Examples.{silent}
+use Rattle.applied.specs.CallList.{AsPlaced}
 use Rattle.applied.specs.Gains.{log_table, pow_table}
 use Rattle.applied.specs.Indexed.{index_sheet, out, indexed, gains_sheet, energies_left, IndexedValues, IndexedApplied, index_ordered, IndexOrder, tabled_call, tableless_call, IndexedList}
 use Rattle.applied.proofs.Examples.{example}
-use Rattle.applied.proofs.CallList.{two_calls}
+use Rattle.applied.proofs.CallList.{two_calls, by_place}
 
 index_accepted : call_outcome (index_kind log_table pow_table) index_sheet silent 160 ≡ Ok tt
 unfolding silent index_sheet log_table pow_table state_of core_of post_of concealment_of first_met first_outside first_close is_table call_outcome
@@ -91,4 +92,9 @@ unfolding call_trace call_outcome first_met first_outside first_close is_table i
 second_refused = refl
 
 pub indexed_list : IndexedList
-indexed_list = two_calls silent example.well_formed example.state tabled_call tableless_call [] first_accepted second_refused
+indexed_list =
+    two_calls silent example.well_formed example.state tabled_call tableless_call [] _ AsPlaced AsPlaced AsPlaced AsPlaced first_accepted second_refused refl
+    (by_place _)
+    (by_place _)
+    (by_place _)
+    (by_place _)

@@ -17,9 +17,9 @@ use Rattle.kinds.specs.Kind.{frame_kind, index_kind, erased_kind, call_outcome}
 use Rattle.kinds.specs.Prepass.{PreparedFrame, prepared}
 use Rattle.mr74.specs.Frame.{call_trace, erased_call, EnergiesResult}
 use Rattle.mr74.specs.Indexed.{decoded_sheet, without_energies}
-use Rattle.calls.specs.Calls.{Call, next_state, state_after}
+use Rattle.calls.specs.Calls.{Call, trace_of, next_state}
 use Rattle.applied.specs.Examples.{frame_sheet_call, index_sheet_call, erased_sheet_call, silent, silent_numbers, lag}
-use Rattle.applied.specs.CallList.{TwoCalls}
+use Rattle.applied.specs.CallList.{AsPlaced, TwoCalls}
 use Rattle.applied.specs.Gains.{log_table, pow_table}
 use Rattle.applied.specs.Indexed.{index_sheet, out}
 use Rattle.applied.specs.Refusals.{Refusal, refused, zeros_then, lowest}
@@ -190,8 +190,8 @@ pub record HeldIndexed : Type 0 where
 abbrev pub stage_7 : Call
 stage_7 = erased_sheet_call (pos 100000 ∷ []) (erased_sheet (pos 7)) out
 
-abbrev pub mixed_calls : List Call
-mixed_calls = lost_call ∷ stage_7 ∷ index_sheet_call log_table pow_table opening_energies index_sheet out ∷ frame_sheet_call good_sheet out ∷ []
+abbrev pub later_calls : List Call
+later_calls = index_sheet_call log_table pow_table opening_energies index_sheet out ∷ frame_sheet_call good_sheet out ∷ []
 
 abbrev pub ErasedList : Type 0
-ErasedList = TwoCalls silent lost_call stage_7 (state_after silent mixed_calls)
+ErasedList = TwoCalls silent lost_call stage_7 later_calls (trace_of silent lost_call).places AsPlaced AsPlaced AsPlaced AsPlaced

@@ -9,9 +9,9 @@ use Rattle.kinds.specs.Kind.{frame_kind, index_kind, call_outcome}
 use Rattle.mr74.specs.Frame.{call_trace, frame_call, index_call, EnergiesResult}
 use Rattle.mr74.specs.Indexed.{decoded_sheet, without_energies}
 use Rattle.state.specs.Layout.{state_of}
-use Rattle.calls.specs.Calls.{Call, state_after}
+use Rattle.calls.specs.Calls.{Call, trace_of}
 use Rattle.applied.specs.Examples.{index_sheet_call, silent, silent_numbers}
-use Rattle.applied.specs.CallList.{TwoCalls}
+use Rattle.applied.specs.CallList.{AsPlaced, TwoCalls}
 use Rattle.applied.specs.Gains.{log_table, pow_table, falling, negative}
 use Rattle.applied.specs.Refusals.{Refusal, refused, zeros_then, lowest}
 
@@ -108,8 +108,5 @@ tabled_call = index_sheet_call log_table pow_table opening_energies index_sheet 
 abbrev pub tableless_call : Call
 tableless_call = index_sheet_call [] [] (pos 1 ∷ pos 100000 ∷ []) index_sheet out
 
-abbrev pub index_calls : List Call
-index_calls = tabled_call ∷ tableless_call ∷ []
-
 abbrev pub IndexedList : Type 0
-IndexedList = TwoCalls silent tabled_call tableless_call (state_after silent index_calls)
+IndexedList = TwoCalls silent tabled_call tableless_call [] (trace_of silent tabled_call).places AsPlaced AsPlaced AsPlaced AsPlaced
