@@ -13,6 +13,7 @@ pub mod Held
 pub mod Divisions
 pub mod Calls
 pub mod Handover
+pub mod Records
 pub mod Synthesis
 pub mod Postfilter
 pub mod Capi
