@@ -47,7 +47,7 @@ module _ (kind : SheetKind) (energies sheet : List ℤ) (p : SheetPasses (kind_o
   call_accepted = rw outcome_is refl
 
   pub next_opens : Opens (next_state s c)
-  next_opens = record { formed = next_well_formed s c g.formed f; passes = next_accepted s c g.formed call_accepted }
+  next_opens = record { formed = next_well_formed s c g.formed (λ e. f); passes = next_accepted s c g.formed call_accepted }
 
   pub next_concealment : (next_state s c).concealment ≡ (prepared (kind_of kind) energies sheet s).concealment
   unfolding call_trace

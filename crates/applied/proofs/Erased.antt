@@ -1,4 +1,4 @@
--- The erased frames of specs/Erased.antt: what the sheets come to, computed from the definition; what acceptance has shown, `sorted_kept`, `median_of_any`,
+-- The erased frames of specs/Erased.antt: what the sheets come to, computed from the definition; `accepted_exactly`, `erased_gains`, `sorted_kept`, `median_of_any`,
 -- `concealed_in_range`, `next_accepted`, `next_well_formed`, `fields_placed`, `index_is_frame` and `every_list_as_measured`, applied.
 use Rattle.std.proofs.Common.{◌≡◌, refl, sym, ap, ◌∙◌, ℕ, ◌<◌, true, false, List, [], ◌∷◌, map, lit<, lit≤, ℤ, pos, replicate, w16}
 use mathlib.Core.List.{flat_map}
@@ -6,9 +6,9 @@ use mathlib.Core.List.Perm
 use lib.Signed.{le_z_yes}
 use Rattle.std.specs.Prelude.{Ok}
 use Rattle.lists.specs.Lists.{iter, tab, Every}
+use Rattle.lists.proofs.Entries.{every_map}
 use Rattle.basicop.specs.Ops.{clamp, asr, wrap, add, sub, mult, shl, l_add, l_sub, l_mult, l_shl, l_shr_r, l_deposit_h, doublings, norm_l, div_s, l_extract, mpy_32_16}
 use Rattle.pitch.specs.Lag.{Lag, absolute, lag_min, relative, concealed_lag}
-use Rattle.pitch.proofs.Lags.{Span}
 use Rattle.spectral.specs.Lsp.{cosine, between, lsp_of}
 use Rattle.lpc.specs.Rows.{raised_at, polynomial, row_of, rows_of}
 use Rattle.adaptive.specs.Predict.{inter6, phase, start, interpolated, extended, predicted}
@@ -27,7 +27,6 @@ use Rattle.postfilter.specs.Tilt as tilts
 use Rattle.postfilter.specs.Preemphasis.{preemphasised}
 use Rattle.postfilter.specs.Postfilter.{filter_result, postfilter_result}
 use Rattle.basicop.specs.declared.Q14.{Q14}
-use Rattle.basicop.proofs.Range.{sfits_range}
 use Rattle.decoder.specs.Inputs.{SubframeInputs}
 use Rattle.outcome.specs.Outcome.{is_accepted}
 use Rattle.outcome.specs.Checks.{first_met, first_outside, first_close}
@@ -37,26 +36,21 @@ use Rattle.gain.specs.Gain.{decoded_gains, average_energy}
 use Rattle.gain.specs.Call.{opening_energies}
 use Rattle.gain_concealment.specs.Median.{inserted, sorted}
 use Rattle.gain_concealment.specs.Concealment.{updated, concealed_gains, good_gains}
-use Rattle.gain_concealment.specs.Formed.{GainsFormed}
 use Rattle.gain_concealment.specs.Laws.{Kept}
 use Rattle.gain_concealment.proofs.Sorting.{sorted_kept, median_of_any}
 use Rattle.gain_concealment.proofs.Ranges.{concealed_in_range}
-use Rattle.gain_concealment.proofs.Words.{concealed_words}
 use Rattle.state.specs.declared.Concealment.{Concealment}
 use Rattle.state.specs.declared.State.{State}
 use Rattle.state.specs.State.{Fields, WellFormed, state_outcome}
-use Rattle.state.proofs.Checks.{in_range}
 use Rattle.state.proofs.Numbers.{fields_placed}
 use Rattle.state.specs.Layout.{core_of, post_of, concealment_numbers, concealment_of, state_of}
-use Rattle.kinds.specs.Sheet.{stage_of, concealed_lags}
 use Rattle.kinds.specs.Kind.{ErasedSheet, index_kind, erased_kind, call_outcome}
 use Rattle.kinds.specs.declared.GainMemory.{GainMemory}
-use Rattle.kinds.specs.Prepass.{kind_step, after_erased, opened_memory, prepared_after, prepared}
-use Rattle.kinds.specs.Accepted.{GapsKept}
-use Rattle.kinds.proofs.Groups.{gaps_accept, own_kept}
-use Rattle.kinds.proofs.LagRanges.{concealed_lags_span}
-use Rattle.kinds.proofs.Passed.{passed}
-use Rattle.kinds.proofs.Steps.{steps_keep}
+use Rattle.kinds.specs.Prepass.{prepared_after, prepared}
+use Rattle.kinds.specs.Accepted.{CallKept}
+use Rattle.kinds.specs.Laws as laws
+use Rattle.kinds.proofs.Accepted.{accepted_exactly}
+use Rattle.kinds.proofs.GainLaws.{erased_gains}
 use Rattle.mr74.specs.Frame.{call_trace, erased_call}
 use Rattle.mr74.proofs.Indexed.{index_is_frame}
 use Rattle.calls.specs.Calls.{trace_of, next_state, accepted, SheetFits}
@@ -120,7 +114,7 @@ fives_kept =
 
 erased_fits : SheetFits lost_call
 unfolding erased_sheet
-erased_fits = fits_by (erased_sheet (pos 0)) refl
+erased_fits e = fits_by (erased_sheet (pos 0)) refl
 
 call_accepted : accepted (trace_of silent lost_call) ≡ true
 unfolding call_trace
@@ -136,37 +130,26 @@ next_formed = next_well_formed silent lost_call example.well_formed erased_fits
 placed : Fields after_lost
 placed = fields_placed after_lost (rw call_next at next_formed)
 
--- the gains of an accepted erased frame, from ones of 16 bits that are not negative
-record Held (m : GainMemory) : Type 0 where
-  kept : Kept m.concealment
-  formed : GainsFormed m.concealment
+erased_shown : (sheet : List ℤ) (s : State) → is_accepted (call_outcome erased_kind sheet s 160) ≡ true → CallKept ErasedSheet sheet s 160
+erased_shown sheet s h = (accepted_exactly ErasedSheet sheet s 160).shown h
 
-erased_gains : (energies sheet : List ℤ) → is_accepted (call_outcome erased_kind sheet silent 160) ≡ true → Every GainsIn (prepared erased_kind energies sheet silent).inputs.subframes
-unfolding prepared_after
-erased_gains energies sheet e =
-    let stage = stage_of sheet in
-    let k = (in_range silent (passed ErasedSheet sheet silent 160 e).state).concealment in
-    let one : (k : ℕ) (lag : Lag) (m : GainMemory) → k < 4 → Span lag → Held m → GainsIn (kind_step erased_kind sheet (after_erased silent.concealment) k lag m).inputs × Held (kind_step erased_kind sheet (after_erased silent.concealment) k lag m).memory =
-    λ k lag m l a h.
-    let r = concealed_in_range stage m.concealment h.kept (sfits_range w16 _ h.formed.past.pitch).1 (sfits_range w16 _ h.formed.past.code).1 in
-    (record { pitch = r.pitch; code = r.code }, record { kept = r.next; formed = (concealed_words stage m.concealment h.formed).next }) in
-    (steps_keep (kind_step erased_kind sheet (after_erased silent.concealment)) Span GainsIn Held one 0 (concealed_lags 4 silent.concealment.last_lag) (opened_memory energies silent) (lit≤ tt) (concealed_lags_span 4 silent.concealment.last_lag k.from k.to) (record { kept = k.gains; formed = example.well_formed.concealment.gains })).0
-
-erased_gaps : (sheet : List ℤ) (s : State) → is_accepted (call_outcome erased_kind sheet s 160) ≡ true → GapsKept sheet
-erased_gaps sheet s h = gaps_accept sheet (passed ErasedSheet sheet s 160 h).lsfs
+gains_in : (energies sheet : List ℤ) → is_accepted (call_outcome erased_kind sheet silent 160) ≡ true → Every GainsIn (prepared erased_kind energies sheet silent).inputs.subframes
+gains_in energies sheet h =
+    every_map (λ (p : SubframeInputs) (g : laws.GainsIn p). record { pitch = g.pitch; code = g.code }) (prepared erased_kind energies sheet silent).inputs.subframes
+    (erased_gains energies sheet silent 160 example.well_formed h)
 
 pub erased_applied : ErasedApplied
 unfolding sorted inserted
 erased_applied =
     let r = concealed_in_range (pos 6) fives fives_kept (le_z_yes tt) (le_z_yes tt) in
     record {
-      shown = λ x y rest s h. let g = erased_gaps (x ∷ y ∷ rest) s h in (g.first, g.later 0 (lit< tt));
-      stage = λ sheet s h. own_kept ErasedSheet sheet (passed ErasedSheet sheet s 160 h).own;
+      shown = λ x y rest s h. let g = (erased_shown (x ∷ y ∷ rest) s h).gaps in (g.first, g.later 0 (lit< tt));
+      stage = λ sheet s h. (erased_shown sheet s h).own;
       least = (sorted_kept fives.code_history).rises 0 (lit< tt);
       exchanged = λ x y. median_of_any (x ∷ y ∷ pos 4 ∷ pos 2 ∷ pos 3 ∷ []) (y ∷ x ∷ pos 4 ∷ pos 2 ∷ pos 3 ∷ []) (Perm.swap y x _);
       pitch = r.pitch;
       code = r.code;
-      gains = erased_gains;
+      gains = gains_in;
       next_accepted = next_accepted silent lost_call example.well_formed call_accepted;
       next_well_formed = next_formed;
       last_lag = placed.last_lag;

@@ -1,5 +1,5 @@
--- The index calls of specs/Indexed.antt: the gains computed from the definition, the frame itself stays shut; `index_is_frame`, what acceptance has
--- shown, and `every_list_as_measured`, applied.
+-- The index calls of specs/Indexed.antt: the gains computed from the definition, the frame itself stays shut; `index_is_frame`, `accepted_exactly` and
+-- `every_list_as_measured`, applied.
 use Rattle.std.proofs.Common.{◌≡◌, refl, ap, true, false, [], ◌∷◌, lit<}
 use Rattle.std.specs.Prelude.{Ok}
 use Rattle.lists.specs.Lists.{iter}
@@ -19,8 +19,7 @@ use Rattle.gain.specs.Call.{opening_energies}
 use Rattle.gain.specs.Checks.{is_table}
 use Rattle.kinds.specs.Kind.{IndexSheet, index_kind, call_outcome}
 use Rattle.kinds.specs.Prepass.{prepared, prepared_after}
-use Rattle.kinds.proofs.Groups.{gaps_accept, own_kept}
-use Rattle.kinds.proofs.Passed.{passed}
+use Rattle.kinds.proofs.Accepted.{accepted_exactly}
 use Rattle.mr74.specs.declared.FrameAnswer.{FrameAnswer}
 use Rattle.mr74.specs.Frame.{call_trace, frame_call, index_call}
 use Rattle.mr74.specs.Indexed.{decoded_sheet, SameAsFrame}
@@ -67,15 +66,12 @@ indexed_applied =
       samples = rw sheet_is at same.lent;
       shown =
           λ x y u v w rest logs pows s h.
-          let sheet = x ∷ y ∷ rest in
-          let p = passed (IndexSheet (u ∷ logs) (v ∷ w ∷ pows)) sheet s 160 h in
-          let g = gaps_accept sheet p.lsfs in
-          let k = own_kept (IndexSheet (u ∷ logs) (v ∷ w ∷ pows)) sheet p.own in
-          (g.first, g.later 0 (lit< tt), (k.1.0.range 0 (lit< tt)).0, k.1.1.0.rises 0 (lit< tt));
+          let k = (accepted_exactly (IndexSheet (u ∷ logs) (v ∷ w ∷ pows)) (x ∷ y ∷ rest) s 160).shown h in
+          (k.gaps.first, k.gaps.later 0 (lit< tt), (k.own.1.0.range 0 (lit< tt)).0, k.own.1.1.0.rises 0 (lit< tt));
       indices =
           λ sheet logs pows s h.
-          let k = own_kept (IndexSheet logs pows) sheet (passed (IndexSheet logs pows) sheet s 160 h).own in
-          ((k.1.1.1 0 (lit< tt)).0, (k.1.1.1 3 (lit< tt)).1);
+          let k = (accepted_exactly (IndexSheet logs pows) sheet s 160).shown h in
+          ((k.own.1.1.1 0 (lit< tt)).0, (k.own.1.1.1 3 (lit< tt)).1);
     }
 
 pub index_order : IndexOrder

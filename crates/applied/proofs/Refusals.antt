@@ -1,5 +1,5 @@
--- The refusals of specs/Refusals.antt, computed from the definition; some of them, taken from those equations with the checks shut; and what
--- acceptance has shown.
+-- The refusals of specs/Refusals.antt, computed from the definition; some of them, taken from those equations with the checks shut; and
+-- `accepted_exactly`, applied.
 use Rattle.std.proofs.Common.{◌≡◌, refl, ap, true, List, ◌∷◌, arith, ℤ, get_or}
 use Rattle.outcome.specs.Outcome.{is_accepted}
 use Rattle.outcome.specs.Checks.{first_met, first_outside, first_close}
@@ -7,8 +7,7 @@ use Rattle.state.specs.declared.State.{State}
 use Rattle.state.specs.Layout.{core_of, post_of, concealment_of, state_of}
 use Rattle.kinds.specs.Kind.{FrameSheet, frame_kind, call_outcome}
 use Rattle.kinds.specs.Accepted.{GapsKept}
-use Rattle.kinds.proofs.Groups.{gaps_accept}
-use Rattle.kinds.proofs.Passed.{passed}
+use Rattle.kinds.proofs.Accepted.{accepted_exactly}
 use Rattle.applied.specs.Refusals.{Refusal, refused, ordered, FrameOrder, placed, Places, field_places, FieldPlaces, close, GapPlaces, RefusalsApplied}
 
 pub frame_order : FrameOrder
@@ -28,7 +27,7 @@ unfolding close state_of core_of post_of concealment_of first_met first_outside 
 gap_places = refl
 
 frame_gaps : (sheet : List ℤ) (s : State) → is_accepted (call_outcome frame_kind sheet s 160) ≡ true → GapsKept sheet
-frame_gaps sheet s h = gaps_accept sheet (passed FrameSheet sheet s 160 h).lsfs
+frame_gaps sheet s h = ((accepted_exactly FrameSheet sheet s 160).shown h).gaps
 
 pub refusals_applied : RefusalsApplied
 unfolding ordered placed close
