@@ -20,7 +20,7 @@ pub fn decode(record: &mut Reader) -> Option<bool> {
         answer.outcome.is_ok()
             && record.number()? == gains.pitch.0
             && record.number()? == gains.code.0
-            && record.numbers()? == gains.next.energies,
+            && record.numbers()? == answer.gain_decoder.energies,
     )
 }
 
@@ -43,7 +43,7 @@ pub fn refused(record: &mut Reader) -> Option<bool> {
         record,
         answer.outcome,
         [gains.pitch.0, gains.code.0],
-        gains.next.energies,
+        answer.gain_decoder.energies,
         energies,
     )
 }
@@ -59,7 +59,7 @@ pub fn frame(record: &mut Reader) -> Option<bool> {
     };
     let mut samples = [0; 160];
     let answer = mr74::frame_indexed(&sheet, state, &logs, &pows, decoder, &mut samples);
-    energies_agree(record, &given(&answer.frame, samples), answer.next.energies)
+    energies_agree(record, &given(&answer.frame, samples), answer.gain_decoder.energies)
 }
 
 // A refused call of an index sheet, which gives the energies as they came.
@@ -86,7 +86,7 @@ pub fn refused_frame(record: &mut Reader) -> Option<bool> {
         record,
         &refusal(&answer.frame, lent),
         before,
-        answer.next.energies,
+        answer.gain_decoder.energies,
         energies,
     )
 }

@@ -6,7 +6,8 @@ use Rattle.outcome.specs.Outcome.{number_of, is_accepted}
 use Rattle.coding.specs.Bytes.{words}
 use Rattle.record.specs.Record.{read_call}
 use Rattle.mr74.specs.Frame.{Trace}
-use Rattle.calls.specs.Calls.{Call, FrameCall, trace_of, run_calls}
+use Rattle.kinds.specs.Kind.{FrameSheet}
+use Rattle.calls.specs.Calls.{Call, trace_of, run_calls}
 use Rattle.lines.specs.Lines.{decimal, field, last, state_line}
 use Rattle.sheets.specs.Sheets.{record_bytes, sheet_bytes, sheets_of}
 use Rattle.shift_report.specs.declared.Totals.{Totals}
@@ -23,7 +24,7 @@ whole_sheets k bytes = selected (λ (sheet : List ℕ). length sheet == sheet_by
 
 -- the frame call of a sheet's bytes, with 160 zeros lent
 abbrev pub call_of : List ℕ → Call
-call_of sheet = FrameCall (words sheet) (replicate 160 (pos 0))
+call_of sheet = record { kind = FrameSheet; energies = []; sheet = words sheet; out = replicate 160 (pos 0) }
 
 -- its trace, with the state s
 abbrev pub sheet_trace : State → List ℕ → Trace
