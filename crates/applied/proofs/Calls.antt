@@ -12,7 +12,7 @@ use Rattle.applied.proofs.Examples.{example, refused_trace_lem}
 
 loud_fits : SheetFits call
 unfolding loud
-loud_fits = fits_by loud refl
+loud_fits e = fits_by loud refl
 
 pub calls_applied : CallsApplied
 calls_applied =
@@ -21,7 +21,7 @@ calls_applied =
       refused = one.next_refused silent empty_call (ap (λ (t : Trace). accepted t) (refused_trace_lem silent));
       next_well_formed = one.next_well_formed silent call w loud_fits;
       next_accepted = one.next_accepted silent call w (ap (λ (e : Seen). e.accepted) example.call);
-      list_well_formed = lists.list_well_formed calls silent w (loud_fits, (λ k. zero_fits, tt));
+      list_well_formed = lists.list_well_formed calls silent w (loud_fits, (λ e k. zero_fits, tt));
       list_accepted = lists.list_accepted calls silent w example.state;
       run = lists.run_append (call ∷ []) (empty_call ∷ []) silent;
       after = lists.after_append (call ∷ []) (empty_call ∷ []) silent;

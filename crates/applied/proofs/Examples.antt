@@ -24,10 +24,10 @@ use Rattle.postfilter.specs.Postfilter.{filter_result, postfilter_result}
 use Rattle.outcome.specs.Checks.{first_met, first_outside, first_close}
 use Rattle.state.specs.State.{WellFormed, state_outcome}
 use Rattle.state.specs.Layout.{core_of, post_of, concealment_of, state_of}
-use Rattle.mr74.specs.Checks.{call_outcome}
+use Rattle.kinds.specs.Kind.{call_outcome}
+use Rattle.kinds.specs.Prepass.{prepared_after}
 use Rattle.gain_concealment.specs.Concealment.{updated, good_gains}
-use Rattle.mr74.specs.Sheet.{frame_prepared}
-use Rattle.mr74.specs.Frame.{frame_trace}
+use Rattle.mr74.specs.Frame.{call_trace}
 use Rattle.calls.specs.Calls.{trace_of, run_calls, any_accepted, latest_place}
 use Rattle.applied.specs.Examples.{silent_numbers, silent, loud, call, Seen, seen, expected, Example, RefusedTrace}
 use Rattle.applied.proofs.Concrete.{numbers_well_formed, words_by}
@@ -37,11 +37,11 @@ unfolding silent
 silent_well_formed = numbers_well_formed silent_numbers (words_by silent_numbers 213 refl refl)
 
 seen_is : seen (trace_of silent call) ≡ expected
-unfolding flat_map iter tab clamp asr wrap add sub mult shl l_add l_sub l_mult l_shl l_shr_r l_deposit_h doublings norm_l div_s l_extract mpy_32_16 absolute lag_min relative cosine between lsp_of raised_at polynomial row_of rows_of inter6 phase start interpolated extended predicted sharpened sharpening feedback squares energy energy_gain agc2 inverse_table root_scaled inverse_root outside recursion step_numbers some_outside some_list_outside first_list_outside acc accs enhanced first_excitation synthesis_result excitations subframe_result subframe_results core_result first_met state_of core_of post_of concealment_of updated good_gains frame_prepared first_outside first_close call_outcome frame_trace loud silent numerator denominator weighted residual_sum residual tilts.impulse tilts.correlation tilts.tilt_of tilts.tilt preemphasised filter_result postfilter_result agc controlled
+unfolding flat_map iter tab clamp asr wrap add sub mult shl l_add l_sub l_mult l_shl l_shr_r l_deposit_h doublings norm_l div_s l_extract mpy_32_16 absolute lag_min relative cosine between lsp_of raised_at polynomial row_of rows_of inter6 phase start interpolated extended predicted sharpened sharpening feedback squares energy energy_gain agc2 inverse_table root_scaled inverse_root outside recursion step_numbers some_outside some_list_outside first_list_outside acc accs enhanced first_excitation synthesis_result excitations subframe_result subframe_results core_result first_met state_of core_of post_of concealment_of updated good_gains prepared_after first_outside first_close call_outcome call_trace loud silent numerator denominator weighted residual_sum residual tilts.impulse tilts.correlation tilts.tilt_of tilts.tilt preemphasised filter_result postfilter_result agc controlled
 seen_is = refl
 
 pub example : Example
-unfolding silent state_of core_of post_of concealment_of state_outcome first_met first_outside frame_trace call_outcome run_calls any_accepted latest_place
+unfolding silent state_of core_of post_of concealment_of state_outcome first_met first_outside call_trace call_outcome run_calls any_accepted latest_place
 example =
     record {
       well_formed = silent_well_formed;
@@ -52,5 +52,5 @@ example =
     }
 
 pub refused_trace_lem : RefusedTrace
-unfolding frame_trace call_outcome first_met
+unfolding call_trace call_outcome first_met
 refused_trace_lem s = refl

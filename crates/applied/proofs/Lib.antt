@@ -1,5 +1,6 @@
--- Concrete: what premises ask of lists that are written out. The others: the files of specs/ by the same names.
+-- Concrete: what premises ask of lists that are written out. Accepting: a sheet that its checks let pass. The others: the files of specs/ by the same names.
 pub mod Concrete
+pub mod Accepting
 pub mod Starred
 pub mod Examples
 pub mod Refusals
@@ -7,6 +8,8 @@ pub mod Gains
 pub mod Indexed
 pub mod CallList
 pub mod Erased
+pub mod Retries
+pub mod Held
 pub mod Divisions
 pub mod Calls
 pub mod Handover

@@ -1,6 +1,6 @@
--- Demand 3 applied: what `every_list_as_measured` gives of the list `calls` from the state `silent`. Nothing here is said by a statement of measure/specs/CallList.antt:
+-- What `every_list_as_measured` gives of the list `calls` from the state `silent`. Nothing here is said by a statement of measure/specs/CallList.antt:
 -- each of its clauses is written out, with its premise met. The theorems are in proofs/CallList.antt.
-use Rattle.std.specs.Prelude.{◌≡◌, true, false, [], ◌∷◌, map, ℕ, ◌≤◌, ℤ, pos, negsuc, length, ◌≤ℤ◌}
+use Rattle.std.specs.Prelude.{◌≡◌, true, false, List, [], ◌∷◌, map, ℕ, ◌≤◌, ℤ, pos, negsuc, length, ◌≤ℤ◌}
 use Rattle.lists.specs.Lists.{at, Every}
 use Rattle.basicop.specs.Ops.{Quotient}
 use Rattle.synthesis.specs.Whole.{whole_samples, retried, retried_at}
@@ -8,7 +8,7 @@ use Rattle.decoder.specs.Subframe.{flag_of}
 use Rattle.decoder.specs.Core.{SubframeResult}
 use Rattle.state.specs.declared.State.{State}
 use Rattle.mr74.specs.Frame.{Trace}
-use Rattle.calls.specs.Calls.{Call, trace_of, next_state, state_after, accepted}
+use Rattle.calls.specs.Calls.{Call, trace_of, next_state, run_calls, state_after, accepted, latest_place}
 use Rattle.measure.specs.Machine.{Machine, held_samples, quarters, takes_in, machine_after_subframe, machine_after_subframes}
 use Rattle.applied.specs.Examples.{silent, call, empty_call, calls}
 
@@ -77,60 +77,70 @@ pub record Unretried (m : Machine) (u : SubframeResult) : Type 0 where
   pub past : u.synthesis.past ≡ takes_in m.past u.input.feedback
   pub samples : u.synthesis.samples ≡ whole_samples 10 u.input.row u.input.excitation m.history
 
--- the first call has four subframes: one retried by its sample 8, two not, one retried by its sample 19
-pub record Subframes : Type 0 where
+-- as its place says, where that is not computed
+pub record AsPlaced (m : Machine) (u : SubframeResult) : Type 0 where
+  pub retried : flag_of u.synthesis.place ≡ true → Retried m u u.synthesis.place
+  pub unretried : flag_of u.synthesis.place ≡ false → Unretried m u
+
+-- ---- what is said of a subframe with the machine before it
+abbrev pub Claim : Type 1
+Claim = Machine → SubframeResult → Type 0
+
+abbrev pub RetriedIn : ℕ → Claim
+RetriedIn n m u = Retried m u n
+
+-- ---- the four subframes of a call, one after another
+pub record Subframes (t : Trace) (m : Machine) (A B C D : Claim) : Type 0 where
   pub a : SubframeResult
   pub b : SubframeResult
   pub c : SubframeResult
   pub d : SubframeResult
-  pub four : first.subframes ≡ a ∷ b ∷ c ∷ d ∷ []
-  pub in_a : Retried opened a 8
-  pub in_b : Unretried (after_one opened a) b
-  pub in_c : Unretried (after_one (after_one opened a) b) c
-  pub in_d : Retried (after_one (after_one (after_one opened a) b) c) d 19
+  pub four : t.subframes ≡ a ∷ b ∷ c ∷ d ∷ []
+  pub in_a : A m a
+  pub in_b : B (after_one m a) b
+  pub in_c : C (after_one (after_one m a) b) c
+  pub in_d : D (after_one (after_one (after_one m a) b) c) d
 
--- ---- the first call, which is accepted
+-- ---- an accepted call of any kind, with the machine m before it; its places are ns
+pub record AcceptedOne (t : Trace) (m : Machine) (ns : List ℕ) (A B C D : Claim) : Type 0 where
+  pub accepts : accepted t ≡ true
+  pub tilts : (length t.tilts ≡ 4) × Every (λ (t : ℤ). (pos 0 ≤ℤ t) × (t ≤ℤ pos 26214)) t.tilts
+  pub divisors : Every (λ (q : Quotient). ¬ (q.divisor ≡ pos 0)) t.quotients
+  pub four : length t.subframes ≡ 4
+  pub places : t.places ≡ ns
+  pub subframe_places : map (λ (u : SubframeResult). u.synthesis.place) t.subframes ≡ ns
+  pub rows : map (λ (u : SubframeResult). u.input.row) t.subframes ≡ t.rows.a ∷ t.rows.b ∷ t.rows.c ∷ t.rows.d ∷ []
+  pub subframes : Subframes t m A B C D
+  pub history : t.next.core.history ≡ (after_call m t).history
+  pub past : t.next.core.past ≡ (after_call m t).past
+
+-- ---- a refused one, on the state s
+pub record RefusedOne (s : State) (t : Trace) (m : Machine) : Type 0 where
+  pub refuses : accepted t ≡ false
+  pub none : t.subframes ≡ []
+  pub no_tilt : t.tilts ≡ []
+  pub no_quotient : t.quotients ≡ []
+  pub machine : after_call m t ≡ m
+  pub state : t.next ≡ s
+
+-- ---- the first call, which is accepted: one subframe retried by its sample 8, two not, one retried by its sample 19
 pub record FirstCall : Type 0 where
-  pub tilts : (length first.tilts ≡ 4) × Every (λ (t : ℤ). (pos 0 ≤ℤ t) × (t ≤ℤ pos 26214)) first.tilts
-  pub divisors : Every (λ (q : Quotient). ¬ (q.divisor ≡ pos 0)) first.quotients
-  pub places : first.places ≡ 8 ∷ 40 ∷ 40 ∷ 19 ∷ []
-  pub subframe_places : map (λ (u : SubframeResult). u.synthesis.place) first.subframes ≡ 8 ∷ 40 ∷ 40 ∷ 19 ∷ []
+  pub call : AcceptedOne first opened (8 ∷ 40 ∷ 40 ∷ 19 ∷ []) (RetriedIn 8) Unretried Unretried (RetriedIn 19)
   pub flags : map flag_of first.places ≡ true ∷ false ∷ false ∷ true ∷ []
-  pub rows : map (λ (u : SubframeResult). u.input.row) first.subframes ≡ first.rows.a ∷ first.rows.b ∷ first.rows.c ∷ first.rows.d ∷ []
-  pub subframes : Subframes
-  pub history : first.next.core.history ≡ (after_call opened first).history
-  pub past : first.next.core.past ≡ (after_call opened first).past
   -- the newest excitation of the machine's own past, which the retry of the last subframe has quartered
   pub newest : at (after_call opened first).past 153 ≡ pos 8191
 
 -- ---- the second, which is refused
-pub record SecondCall : Type 0 where
-  pub none : second.subframes ≡ []
-  pub no_tilt : second.tilts ≡ []
-  pub no_quotient : second.quotients ≡ []
-  pub machine : after_call (after_call opened first) second ≡ after_call opened first
-  pub state : second.next ≡ first.next
+abbrev pub SecondCall : Type 0
+SecondCall = RefusedOne first.next second (after_call opened first)
 
--- ---- the same of any list that begins with an accepted call c and a refused one d, of other kinds too (Indexed.antt, Erased.antt)
-pub record TwoCalls (s : State) (c d : Call) (after : State) : Type 0 where
+-- ---- the same of any list that begins with an accepted call c and a refused one d, of other kinds too (Indexed.antt, Erased.antt, Retries.antt)
+pub record TwoCalls (s : State) (c d : Call) (rest : List Call) (ns : List ℕ) (A B C D : Claim) : Type 0 where
+  pub accepted_call : AcceptedOne (trace_of s c) (opened_by s) ns A B C D
+  pub refused_call : RefusedOne (next_state s c) (trace_of (next_state s c) d) (after_call (opened_by s) (trace_of s c))
   -- the state after the list
-  pub sharpening : (pos 0 ≤ℤ after.core.sharpening.0) × (after.core.sharpening.0 ≤ℤ pos 13017)
-  pub gain : (pos 0 ≤ℤ after.post.gain.previous_gain) × (after.post.gain.previous_gain ≤ℤ pos 32765)
-  -- the accepted call
-  pub accepts : accepted (trace_of s c) ≡ true
-  pub tilts : (length (trace_of s c).tilts ≡ 4) × Every (λ (t : ℤ). (pos 0 ≤ℤ t) × (t ≤ℤ pos 26214)) (trace_of s c).tilts
-  pub divisors : Every (λ (q : Quotient). ¬ (q.divisor ≡ pos 0)) (trace_of s c).quotients
-  pub four : length (trace_of s c).subframes ≡ 4
-  pub places : (trace_of s c).places ≡ map (λ (u : SubframeResult). u.synthesis.place) (trace_of s c).subframes
-  pub rows :
-      let rows = (trace_of s c).rows in
-      map (λ (u : SubframeResult). u.input.row) (trace_of s c).subframes ≡ rows.a ∷ rows.b ∷ rows.c ∷ rows.d ∷ []
-  pub history : (next_state s c).core.history ≡ (after_call (opened_by s) (trace_of s c)).history
-  pub past : (next_state s c).core.past ≡ (after_call (opened_by s) (trace_of s c)).past
-  -- the refused one
-  pub refuses : accepted (trace_of (next_state s c) d) ≡ false
-  pub none : (trace_of (next_state s c) d).subframes ≡ []
-  pub machine :
-      let m = after_call (opened_by s) (trace_of s c) in
-      after_call m (trace_of (next_state s c) d) ≡ m
-  pub state : next_state (next_state s c) d ≡ next_state s c
+  pub sharpening : let after = state_after s (c ∷ d ∷ rest) in (pos 0 ≤ℤ after.core.sharpening.0) × (after.core.sharpening.0 ≤ℤ pos 13017)
+  pub gain : let after = state_after s (c ∷ d ∷ rest) in (pos 0 ≤ℤ after.post.gain.previous_gain) × (after.post.gain.previous_gain ≤ℤ pos 32765)
+  pub past :
+      flag_of (latest_place 40 (run_calls s (c ∷ d ∷ rest))) ≡ true
+      → (length (state_after s (c ∷ d ∷ rest)).core.past ≡ 154) × Every (λ (z : ℤ). (negsuc 8191 ≤ℤ z) × (z ≤ℤ pos 8191)) (state_after s (c ∷ d ∷ rest)).core.past

@@ -1,6 +1,6 @@
--- Erased frames (document 02, 7/13), computed from the state `silent`: an erased frame, a good frame and an erased frame after it, a good frame that is held;
--- the theorems of mr74/specs/Erased.antt, calls/specs/Calls.antt and gain_concealment/specs/Laws.antt applied; an index frame that is held; and demand 3
--- applied to a list of all three kinds of calls. The theorems are in proofs/Erased.antt.
+-- Erased frames (docs/BENCH.md, "Erased frames"), computed from the state `silent`: an erased frame, a good frame and an erased frame after it, a good frame that is
+-- held; the theorems of kinds/specs/Accepted.antt, calls/specs/Calls.antt and gain_concealment/specs/Laws.antt applied; an index frame that is held; and the theorem over
+-- lists of calls applied to a list of all three kinds. The theorems are in proofs/Erased.antt.
 use Rattle.std.specs.Prelude.{◌≡◌, Ok, true, List, [], ◌∷◌, ◌++◌, map, ℕ, ℤ, pos, ◌+ℤ◌, drop, replicate, set, ◌≤ℤ◌}
 use Rattle.lists.specs.Lists.{minus, at, Every}
 use Rattle.pitch.specs.Lag.{Lag}
@@ -13,15 +13,13 @@ use Rattle.state.specs.State.{WellFormed, state_outcome}
 use Rattle.state.specs.Layout.{concealment_numbers, gain_numbers, numbers_of, state_of}
 use Rattle.outcome.specs.Outcome.{number_of, place_of, is_accepted}
 use Rattle.gain.specs.Call.{opening_energies}
-use Rattle.mr74.specs.Prepass.{Prepared}
-use Rattle.mr74.specs.Sheet.{frame_prepared}
-use Rattle.mr74.specs.Checks.{frame_outcome, indexed_outcome, erased_outcome}
-use Rattle.mr74.specs.Frame.{frame_trace, EnergiesResult}
-use Rattle.mr74.specs.Indexed.{decoded_sheet, indexed_prepared, opened_memory, indexed_trace}
-use Rattle.mr74.specs.Erased.{erased_prepared, erased_call, GainsIn}
-use Rattle.calls.specs.Calls.{Call, FrameCall, IndexCall, ErasedCall, next_state, state_after}
-use Rattle.applied.specs.Examples.{silent, silent_numbers, lag}
-use Rattle.applied.specs.CallList.{TwoCalls}
+use Rattle.kinds.specs.Kind.{frame_kind, index_kind, erased_kind, call_outcome}
+use Rattle.kinds.specs.Prepass.{PreparedFrame, prepared}
+use Rattle.mr74.specs.Frame.{call_trace, erased_call, EnergiesResult}
+use Rattle.mr74.specs.Indexed.{decoded_sheet, without_energies}
+use Rattle.calls.specs.Calls.{Call, trace_of, next_state}
+use Rattle.applied.specs.Examples.{frame_sheet_call, index_sheet_call, erased_sheet_call, silent, silent_numbers, lag}
+use Rattle.applied.specs.CallList.{AsPlaced, TwoCalls}
 use Rattle.applied.specs.Gains.{log_table, pow_table}
 use Rattle.applied.specs.Indexed.{index_sheet, out}
 use Rattle.applied.specs.Refusals.{Refusal, refused, zeros_then, lowest}
@@ -56,34 +54,38 @@ pub record Subframe : Type 0 where
 abbrev pub subframe : ℕ → ℕ → ℕ → Subframe
 subframe samples pitch code = record { lag = lag samples (pos 0); pitch = pos pitch; code = pos code }
 
-abbrev pub subframes : Prepared → List Subframe
+abbrev pub subframes : PreparedFrame → List Subframe
 subframes p = map (λ (s : SubframeInputs). record { lag = s.lag; pitch = s.pitch; code = s.code }) p.inputs.subframes
 
 -- from `silent`, which has no gain to conceal with: an erased frame, and its call
-abbrev pub lost : Prepared
-lost = erased_prepared (erased_sheet (pos 0)) silent.concealment
+abbrev pub lost : PreparedFrame
+lost = prepared erased_kind opening_energies (erased_sheet (pos 0)) silent
 
 abbrev pub lost_result : EnergiesResult
 lost_result = erased_call opening_energies (erased_sheet (pos 0)) silent out
 
--- a good one, and after it an erased one of stage 1
-abbrev pub good : Prepared
-good = frame_prepared good_sheet silent.concealment
+-- the state `silent` with the concealment that a frame leaves: no gain and no lag depends on a sample
+abbrev pub concealing : PreparedFrame → State
+concealing p = record silent { concealment = p.concealment }
 
-abbrev pub lost_later : Prepared
-lost_later = erased_prepared (erased_sheet (pos 1)) good.concealment
+-- a good one, and after it an erased one of stage 1
+abbrev pub good : PreparedFrame
+good = prepared frame_kind [] good_sheet silent
+
+abbrev pub lost_later : PreparedFrame
+lost_later = prepared erased_kind opening_energies (erased_sheet (pos 1)) (concealing good)
 
 -- a good one after the first erased one: its gains are held to the last good ones, of which there are none
-abbrev pub held : Prepared
-held = frame_prepared good_sheet lost.concealment
+abbrev pub held : PreparedFrame
+held = prepared frame_kind [] good_sheet (concealing lost)
 
 pub record ErasedValues : Type 0 where
-  pub accepted : erased_outcome (erased_sheet (pos 0)) silent 160 ≡ Ok tt
+  pub accepted : call_outcome erased_kind (erased_sheet (pos 0)) silent 160 ≡ Ok tt
   -- lags, no gain, and the mark; silence; the energies, stepped four times
   pub lost_subframes : subframes lost ≡ subframe 41 0 0 ∷ subframe 42 0 0 ∷ subframe 43 0 0 ∷ subframe 44 0 0 ∷ []
   pub lost_fields : concealment_numbers lost_result.answer.frame.next.concealment ≡ pos 44 ∷ (replicate 14 (pos 0) ++ (pos 1 ∷ []))
   pub samples : lost_result.lent ≡ replicate 160 (pos 0)
-  pub energies : lost_result.answer.next.energies ≡ replicate 4 (minus 8192)
+  pub energies : lost_result.answer.gain_decoder.energies ≡ replicate 4 (minus 8192)
   -- after the good frame: the last lag; two fives, whose pitch gains are held to 16384; past gains; last good gains, which are not; the mark
   pub good_fields :
       concealment_numbers good.concealment
@@ -101,7 +103,7 @@ pub record ErasedValues : Type 0 where
 -- ---- the order 1, 5, 2, 6, 9, 16 to 19: each call meets its check and all those after it; the last meets none
 abbrev pub erased_refusal : List ℤ → List ℤ → ℕ → Refusal
 erased_refusal sheet numbers room =
-    let o = erased_outcome sheet (state_of numbers) room in
+    let o = call_outcome erased_kind sheet (state_of numbers) room in
     refused (number_of o) (place_of o)
 
 unfoldable pub erased_ordered : List Refusal
@@ -137,16 +139,21 @@ fives =
     }
 
 abbrev pub lost_call : Call
-lost_call = ErasedCall opening_energies (erased_sheet (pos 0)) out
+lost_call = erased_sheet_call opening_energies (erased_sheet (pos 0)) out
 
 -- the state after the erased frame
 abbrev pub after_lost : State
 after_lost = lost_result.answer.frame.next
 
+-- concealed gains lie in 0..=32766
+pub record GainsIn (p : SubframeInputs) : Type 0 where
+  pub pitch : (pos 0 ≤ℤ p.pitch) × (p.pitch ≤ℤ pos 32766)
+  pub code : (pos 0 ≤ℤ p.code) × (p.code ≤ℤ pos 32766)
+
 pub record ErasedApplied : Type 0 where
-  -- AcceptedErased: of a sheet that begins with these two LSFs, and of any
-  pub shown : (x y : ℤ) (rest : List ℤ) (s : State) → is_accepted (erased_outcome (x ∷ y ∷ rest) s 160) ≡ true → (pos 205 ≤ℤ x) × ((x +ℤ pos 205) ≤ℤ y)
-  pub stage : (sheet : List ℤ) (s : State) → is_accepted (erased_outcome sheet s 160) ≡ true → (pos 0 ≤ℤ at sheet 10) × (at sheet 10 ≤ℤ pos 6)
+  -- AcceptedExactly: of a sheet that begins with these two LSFs, and of any
+  pub shown : (x y : ℤ) (rest : List ℤ) (s : State) → is_accepted (call_outcome erased_kind (x ∷ y ∷ rest) s 160) ≡ true → (pos 205 ≤ℤ x) × ((x +ℤ pos 205) ≤ℤ y)
+  pub stage : (sheet : List ℤ) (s : State) → is_accepted (call_outcome erased_kind sheet s 160) ≡ true → (pos 0 ≤ℤ at sheet 10) × (at sheet 10 ≤ℤ pos 6)
   -- SortedKept: the least comes first, and the second after it
   pub least : at (sorted fives.code_history) 0 ≤ℤ at (sorted fives.code_history) 1
   -- MedianOfAny: two of the five exchanged
@@ -154,10 +161,10 @@ pub record ErasedApplied : Type 0 where
   -- ConcealedInRange, at the last stage
   pub pitch : (pos 0 ≤ℤ (concealed_gains (pos 6) fives).gains.pitch.0) × ((concealed_gains (pos 6) fives).gains.pitch.0 ≤ℤ pos 32766)
   pub code : (pos 0 ≤ℤ (concealed_gains (pos 6) fives).gains.code.0) × ((concealed_gains (pos 6) fives).gains.code.0 ≤ℤ pos 32766)
-  -- ErasedGains
+  -- the gains of every subframe, of any sheet that is accepted, stage and energies
   pub gains :
-      (sheet : List ℤ) → is_accepted (erased_outcome sheet silent 160) ≡ true
-      → Every GainsIn (erased_prepared sheet silent.concealment).inputs.subframes
+      (energies sheet : List ℤ) → is_accepted (call_outcome erased_kind sheet silent 160) ≡ true
+      → Every GainsIn (prepared erased_kind energies sheet silent).inputs.subframes
   -- NextAccepted, NextWellFormed
   pub next_accepted : state_outcome (next_state silent lost_call) ≡ Ok tt
   pub next_well_formed : WellFormed (next_state silent lost_call)
@@ -165,26 +172,26 @@ pub record ErasedApplied : Type 0 where
   pub last_lag : at (numbers_of after_lost) 197 ≡ after_lost.concealment.last_lag
   pub fields : drop 198 (numbers_of after_lost) ≡ gain_numbers after_lost.concealment.gains ++ (after_lost.concealment.erased ∷ [])
 
--- ---- IndexedIsFrame with the mark: the index sheet of Indexed.antt after the erased frame. Its pitch gains are held to nothing, so that no later subframe
+-- ---- IndexIsFrame with the mark: the index sheet of Indexed.antt after the erased frame. Its pitch gains are held to nothing, so that no later subframe
 -- is sharpened; the frame sheet has the gains as they were decoded by that, and holds them again
-abbrev pub held_later : Prepared
-held_later = (indexed_prepared log_table pow_table index_sheet after_lost.concealment (opened_memory opening_energies after_lost)).frame
+abbrev pub held_later : PreparedFrame
+held_later = prepared (index_kind log_table pow_table) opening_energies index_sheet after_lost
 
 pub record HeldIndexed : Type 0 where
   pub mark : after_lost.concealment.erased ≡ pos 1
-  pub accepted : indexed_outcome log_table pow_table index_sheet after_lost 160 ≡ Ok tt
+  pub accepted : call_outcome (index_kind log_table pow_table) index_sheet after_lost 160 ≡ Ok tt
   pub pitch : map (λ (s : SubframeInputs). s.pitch) held_later.inputs.subframes ≡ replicate 4 (pos 0)
-  pub frame_accepted : frame_outcome (decoded_sheet log_table pow_table opening_energies index_sheet after_lost) after_lost 160 ≡ Ok tt
+  pub frame_accepted : call_outcome frame_kind (decoded_sheet log_table pow_table opening_energies index_sheet after_lost) after_lost 160 ≡ Ok tt
   pub trace :
-      indexed_trace log_table pow_table opening_energies index_sheet after_lost out
-      ≡ frame_trace (decoded_sheet log_table pow_table opening_energies index_sheet after_lost) after_lost out
+      without_energies (call_trace (index_kind log_table pow_table) opening_energies index_sheet after_lost out)
+      ≡ call_trace frame_kind [] (decoded_sheet log_table pow_table opening_energies index_sheet after_lost) after_lost out
 
--- ---- demand 3, of a list of all three kinds of calls: an erased one; one of stage 7 that brings one energy, which is refused; an index call; a frame call
+-- ---- a list of all three kinds of calls: an erased one; one of stage 7 that brings one energy, which is refused; an index call; a frame call
 abbrev pub stage_7 : Call
-stage_7 = ErasedCall (pos 100000 ∷ []) (erased_sheet (pos 7)) out
+stage_7 = erased_sheet_call (pos 100000 ∷ []) (erased_sheet (pos 7)) out
 
-abbrev pub mixed_calls : List Call
-mixed_calls = lost_call ∷ stage_7 ∷ IndexCall log_table pow_table opening_energies index_sheet out ∷ FrameCall good_sheet out ∷ []
+abbrev pub later_calls : List Call
+later_calls = index_sheet_call log_table pow_table opening_energies index_sheet out ∷ frame_sheet_call good_sheet out ∷ []
 
 abbrev pub ErasedList : Type 0
-ErasedList = TwoCalls silent lost_call stage_7 (state_after silent mixed_calls)
+ErasedList = TwoCalls silent lost_call stage_7 later_calls (trace_of silent lost_call).places AsPlaced AsPlaced AsPlaced AsPlaced

@@ -1,5 +1,5 @@
--- A call that demand 3 speaks of: from an accepted state, accepted, with subframes that are retried and subframes that are not, and it divides at every
--- place where the definition can. And a call that is refused.
+-- A call that the theorem over lists of calls speaks of: from an accepted state, accepted, with subframes that are retried and subframes that are not, and it divides at
+-- every place where the definition can. And a call that is refused.
 -- The theorems are `example` and `refused_trace_lem` in proofs/Examples.antt: each value is computed from the definition.
 use Rattle.std.specs.Prelude.{◌≡◌, Ok, Err, Bool, true, ℕ, List, [], ◌∷◌, ◌++◌, ℤ, pos, replicate}
 use Rattle.lists.specs.Lists.{minus, at}
@@ -10,10 +10,21 @@ use Rattle.outcome.specs.declared.Refusal.TheVariants.{SheetLength}
 use Rattle.state.specs.State.{WellFormed, state_outcome}
 use Rattle.state.specs.Layout.{state_of}
 use Rattle.coding.specs.Body.{missing}
+use Rattle.kinds.specs.Kind.{FrameSheet, IndexSheet, ErasedSheet}
 use Rattle.mr74.specs.Frame.{Trace}
-use Rattle.calls.specs.Calls.{Call, FrameCall, trace_of, run_calls, accepted, any_accepted, latest_place}
+use Rattle.calls.specs.Calls.{Call, trace_of, run_calls, accepted, any_accepted, latest_place}
 
--- what a version 1 record of zeros is read as: zeros but for the last lag, 40
+-- ---- a call of each kind, by what it brings. (A frame sheet's call goes by no energies.)
+abbrev pub frame_sheet_call : List ℤ → List ℤ → Call
+frame_sheet_call sheet out = record { kind = FrameSheet; energies = []; sheet = sheet; out = out }
+
+abbrev pub index_sheet_call : List ℤ → List ℤ → List ℤ → List ℤ → List ℤ → Call
+index_sheet_call logs pows energies sheet out = record { kind = IndexSheet logs pows; energies = energies; sheet = sheet; out = out }
+
+abbrev pub erased_sheet_call : List ℤ → List ℤ → List ℤ → Call
+erased_sheet_call energies sheet out = record { kind = ErasedSheet; energies = energies; sheet = sheet; out = out }
+
+-- ---- what a version 1 record of zeros is read as: zeros but for the last lag, 40
 abbrev pub silent_numbers : List ℤ
 silent_numbers = replicate 197 (pos 0) ++ missing
 
@@ -29,11 +40,11 @@ loud =
     ++ replicate 160 (pos 8192)))
 
 abbrev pub call : Call
-call = FrameCall loud (replicate 160 (pos 0))
+call = frame_sheet_call loud (replicate 160 (pos 0))
 
 -- a call with no sheet and no output, which is refused
 abbrev pub empty_call : Call
-empty_call = FrameCall [] []
+empty_call = frame_sheet_call [] []
 
 abbrev pub calls : List Call
 calls = call ∷ empty_call ∷ []
@@ -89,7 +100,7 @@ expected =
     }
 
 pub record Example : Type 0 where
-  -- what demand 3 asks of the opening state
+  -- what is asked of the opening state
   pub well_formed : WellFormed silent
   pub state : state_outcome silent ≡ Ok tt
   pub call : seen (trace_of silent call) ≡ expected
@@ -113,6 +124,7 @@ empty_trace s =
       quotients = [];
       output = [];
       next = s;
+      energies = [];
     }
 
 abbrev pub RefusedTrace : Type 0

@@ -1,17 +1,17 @@
--- A frame call of an index sheet, computed; the theorems of mr74/specs/Indexed.antt applied to it; and demand 3 applied to a list that begins with it, from the
--- state `silent`. The theorems are in proofs/Indexed.antt.
+-- A frame call of an index sheet, computed; the theorems of mr74/specs/Indexed.antt and kinds/specs/Accepted.antt applied to it; and the theorem over lists of calls
+-- applied to a list that begins with it, from the state `silent`. The theorems are in proofs/Indexed.antt.
 use Rattle.std.specs.Prelude.{◌≡◌, Ok, true, List, [], ◌∷◌, ◌++◌, ℕ, ℤ, pos, ◌+ℤ◌, replicate, set, ◌≤ℤ◌}
 use Rattle.lists.specs.Lists.{at}
 use Rattle.state.specs.declared.State.{State}
 use Rattle.outcome.specs.Outcome.{number_of, place_of, is_accepted}
 use Rattle.gain.specs.Call.{opening_energies}
-use Rattle.mr74.specs.Checks.{frame_outcome, indexed_outcome}
-use Rattle.mr74.specs.Frame.{frame_trace, frame_call, EnergiesResult}
-use Rattle.mr74.specs.Indexed.{decoded_sheet, indexed_trace, indexed_call}
+use Rattle.kinds.specs.Kind.{frame_kind, index_kind, call_outcome}
+use Rattle.mr74.specs.Frame.{call_trace, frame_call, index_call, EnergiesResult}
+use Rattle.mr74.specs.Indexed.{decoded_sheet, without_energies}
 use Rattle.state.specs.Layout.{state_of}
-use Rattle.calls.specs.Calls.{Call, IndexCall, state_after}
-use Rattle.applied.specs.Examples.{silent, silent_numbers}
-use Rattle.applied.specs.CallList.{TwoCalls}
+use Rattle.calls.specs.Calls.{Call, trace_of}
+use Rattle.applied.specs.Examples.{index_sheet_call, silent, silent_numbers}
+use Rattle.applied.specs.CallList.{AsPlaced, TwoCalls}
 use Rattle.applied.specs.Gains.{log_table, pow_table, falling, negative}
 use Rattle.applied.specs.Refusals.{Refusal, refused, zeros_then, lowest}
 
@@ -33,7 +33,7 @@ abbrev pub out : List ℤ
 out = replicate 160 (pos 0)
 
 abbrev pub indexed : EnergiesResult
-indexed = indexed_call log_table pow_table opening_energies index_sheet silent out
+indexed = index_call log_table pow_table opening_energies index_sheet silent out
 
 -- the frame sheet with the gains so obtained
 unfoldable pub gains_sheet : List ℤ
@@ -48,31 +48,32 @@ abbrev pub energies_left : List ℤ
 energies_left = pos 9221 ∷ pos 7413 ∷ pos 12853 ∷ pos 5816 ∷ []
 
 pub record IndexedValues : Type 0 where
-  pub accepted : indexed_outcome log_table pow_table index_sheet silent 160 ≡ Ok tt
+  pub accepted : call_outcome (index_kind log_table pow_table) index_sheet silent 160 ≡ Ok tt
   pub sheet : decoded_sheet log_table pow_table opening_energies index_sheet silent ≡ gains_sheet
-  pub energies : indexed.answer.next.energies ≡ energies_left
+  pub energies : indexed.answer.gain_decoder.energies ≡ energies_left
 
--- ---- of IndexedIsFrame: outcome, rows, places, samples and next state are the frame call's
+-- ---- of IndexIsFrame: outcome, rows, places, samples and next state are the frame call's
 pub record IndexedApplied : Type 0 where
-  pub frame_accepted : frame_outcome gains_sheet silent 160 ≡ Ok tt
-  pub trace : indexed_trace log_table pow_table opening_energies index_sheet silent out ≡ frame_trace gains_sheet silent out
+  pub frame_accepted : call_outcome frame_kind gains_sheet silent 160 ≡ Ok tt
+  pub trace :
+      without_energies (call_trace (index_kind log_table pow_table) opening_energies index_sheet silent out) ≡ call_trace frame_kind [] gains_sheet silent out
   pub outcome : indexed.answer.frame.outcome ≡ (frame_call gains_sheet silent out).answer.outcome
   pub rows : indexed.answer.frame.rows ≡ (frame_call gains_sheet silent out).answer.rows
   pub places : indexed.answer.frame.places ≡ (frame_call gains_sheet silent out).answer.places
   pub next : indexed.answer.frame.next ≡ (frame_call gains_sheet silent out).answer.next
   pub samples : indexed.lent ≡ (frame_call gains_sheet silent out).lent
-  -- AcceptedIndexed: of a sheet that begins with these two LSFs, and of tables that begin with these numbers
+  -- AcceptedExactly: of a sheet that begins with these two LSFs, and of tables that begin with these numbers
   pub shown :
       (x y u v w : ℤ) (rest logs pows : List ℤ) (s : State)
-      → is_accepted (indexed_outcome (u ∷ logs) (v ∷ w ∷ pows) (x ∷ y ∷ rest) s 160) ≡ true
+      → is_accepted (call_outcome (index_kind (u ∷ logs) (v ∷ w ∷ pows)) (x ∷ y ∷ rest) s 160) ≡ true
       → (pos 205 ≤ℤ x) × ((x +ℤ pos 205) ≤ℤ y) × (pos 0 ≤ℤ u) × (v ≤ℤ w)
   pub indices :
-      (sheet logs pows : List ℤ) (s : State) → is_accepted (indexed_outcome logs pows sheet s 160) ≡ true → (pos 0 ≤ℤ at sheet 14) × (at sheet 17 ≤ℤ pos 127)
+      (sheet logs pows : List ℤ) (s : State) → is_accepted (call_outcome (index_kind logs pows) sheet s 160) ≡ true → (pos 0 ≤ℤ at sheet 14) × (at sheet 17 ≤ℤ pos 127)
 
 -- ---- the order 1, 5, 2, 6, 3, 7, 8, 16 to 19: each call meets its check and all those after it; the last meets none
 abbrev pub refusal_with : List ℤ → List ℤ → List ℤ → List ℤ → ℕ → Refusal
 refusal_with logs pows sheet numbers room =
-    let o = indexed_outcome logs pows sheet (state_of numbers) room in
+    let o = call_outcome (index_kind logs pows) sheet (state_of numbers) room in
     refused (number_of o) (place_of o)
 
 unfoldable pub index_ordered : List Refusal
@@ -100,15 +101,12 @@ IndexOrder =
     ≡ refused 1 0 ∷ refused 5 0 ∷ refused 2 0 ∷ refused 6 0 ∷ refused 3 0 ∷ refused 7 0 ∷ refused 7 1 ∷ refused 8 0 ∷ refused 8 3 ∷ refused 8 2
     ∷ refused 16 0 ∷ refused 17 0 ∷ refused 18 198 ∷ refused 19 197 ∷ refused 0 0 ∷ []
 
--- ---- demand 3, of a list with two index calls: this one, and one whose tables have no number and whose energies are others, which is refused
-abbrev pub index_call : Call
-index_call = IndexCall log_table pow_table opening_energies index_sheet out
+-- ---- a list with two index calls: this one, and one whose tables have no number and whose energies are others, which is refused
+abbrev pub tabled_call : Call
+tabled_call = index_sheet_call log_table pow_table opening_energies index_sheet out
 
 abbrev pub tableless_call : Call
-tableless_call = IndexCall [] [] (pos 1 ∷ pos 100000 ∷ []) index_sheet out
-
-abbrev pub index_calls : List Call
-index_calls = index_call ∷ tableless_call ∷ []
+tableless_call = index_sheet_call [] [] (pos 1 ∷ pos 100000 ∷ []) index_sheet out
 
 abbrev pub IndexedList : Type 0
-IndexedList = TwoCalls silent index_call tableless_call (state_after silent index_calls)
+IndexedList = TwoCalls silent tabled_call tableless_call [] (trace_of silent tabled_call).places AsPlaced AsPlaced AsPlaced AsPlaced

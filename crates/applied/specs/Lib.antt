@@ -7,6 +7,8 @@ pub mod Gains
 pub mod Indexed
 pub mod CallList
 pub mod Erased
+pub mod Retries
+pub mod Held
 pub mod Divisions
 pub mod Calls
 pub mod Synthesis

@@ -1,12 +1,12 @@
 -- Calls that each check of the frame order turns back, and the places of refusals. The theorems are `frame_order`, `places`, `field_places_lem` and
 -- `gap_places` in proofs/Refusals.antt: each outcome is computed from the definition. `refusals_applied` takes some of them out again, and applies
--- `AcceptedGaps` (mr74/specs/Checks.antt).
+-- `AcceptedExactly` (kinds/specs/Accepted.antt) to frame sheets.
 use Rattle.std.specs.Prelude.{◌≡◌, true, ℕ, ◌-◌, List, [], ◌∷◌, ◌++◌, map, ℤ, pos, ◌+ℤ◌, ◌-ℤ◌, replicate, set, ◌≤ℤ◌}
 use Rattle.lists.specs.Lists.{minus, at}
 use Rattle.outcome.specs.Outcome.{number_of, place_of, is_accepted}
 use Rattle.state.specs.declared.State.{State}
 use Rattle.state.specs.Layout.{state_of}
-use Rattle.mr74.specs.Checks.{frame_outcome}
+use Rattle.kinds.specs.Kind.{frame_kind, call_outcome}
 use Rattle.applied.specs.Examples.{silent_numbers}
 
 -- ---- number and place
@@ -20,7 +20,7 @@ refused number place = record { number = number; place = place }
 -- of a sheet, a state as 213 numbers, and an output of `room` samples
 abbrev pub refusal : List ℤ → List ℤ → ℕ → Refusal
 refusal sheet numbers room =
-    let o = frame_outcome sheet (state_of numbers) room in
+    let o = call_outcome frame_kind sheet (state_of numbers) room in
     refused (number_of o) (place_of o)
 
 -- n zeros, and then -1 up to m numbers
@@ -101,14 +101,14 @@ GapPlaces = close ≡ refused 0 0 ∷ map (refused 6) (0 ∷ 1 ∷ 2 ∷ 3 ∷ 4
 -- ---- as equations of their own
 pub record RefusalsApplied : Type 0 where
   -- 5 before 2 and all after it; 6 before 3; the check of the sheet before that of the state; the place
-  pub room : number_of (frame_outcome (zeros_then 0 182) (state_of (zeros_then 0 213)) 159) ≡ 5
-  pub gap : number_of (frame_outcome (zeros_then 10 182) (state_of (zeros_then 0 213)) 160) ≡ 6
-  pub sheet : number_of (frame_outcome (lowest ++ zeros_then 4 172) (state_of (zeros_then 0 213)) 160) ≡ 4
-  pub place : place_of (frame_outcome (lowest ++ zeros_then 11 172) (state_of silent_numbers) 160) ≡ 7
-  pub gap_place : place_of (frame_outcome (set lowest 9 (pos 2049) ++ zeros_then 172 172) (state_of silent_numbers) 160) ≡ 9
-  -- AcceptedGaps: of a sheet that begins with these three LSFs, and of the last two LSFs of any
+  pub room : number_of (call_outcome frame_kind (zeros_then 0 182) (state_of (zeros_then 0 213)) 159) ≡ 5
+  pub gap : number_of (call_outcome frame_kind (zeros_then 10 182) (state_of (zeros_then 0 213)) 160) ≡ 6
+  pub sheet : number_of (call_outcome frame_kind (lowest ++ zeros_then 4 172) (state_of (zeros_then 0 213)) 160) ≡ 4
+  pub place : place_of (call_outcome frame_kind (lowest ++ zeros_then 11 172) (state_of silent_numbers) 160) ≡ 7
+  pub gap_place : place_of (call_outcome frame_kind (set lowest 9 (pos 2049) ++ zeros_then 172 172) (state_of silent_numbers) 160) ≡ 9
+  -- AcceptedExactly: of a sheet that begins with these three LSFs, and of the last two LSFs of any
   pub first :
       (x y z : ℤ) (rest : List ℤ) (s : State)
-      → is_accepted (frame_outcome (x ∷ y ∷ z ∷ rest) s 160) ≡ true
+      → is_accepted (call_outcome frame_kind (x ∷ y ∷ z ∷ rest) s 160) ≡ true
       → (pos 205 ≤ℤ x) × ((x +ℤ pos 205) ≤ℤ y) × ((y +ℤ pos 205) ≤ℤ z)
-  pub last : (sheet : List ℤ) (s : State) → is_accepted (frame_outcome sheet s 160) ≡ true → (at sheet 8 +ℤ pos 205) ≤ℤ at sheet 9
+  pub last : (sheet : List ℤ) (s : State) → is_accepted (call_outcome frame_kind sheet s 160) ≡ true → (at sheet 8 +ℤ pos 205) ≤ℤ at sheet 9

@@ -26,6 +26,7 @@ trace_with outcome places output =
       quotients = [];
       output = output;
       next = silent;
+      energies = [];
     }
 
 abbrev pub two : List Trace
