@@ -9,7 +9,7 @@ use Rattle.gain.specs.declared.GainDecoder.{GainDecoder}
 use Rattle.gain.specs.declared.GainAnswer.{GainAnswer}
 use Rattle.gain.specs.Call.{gain_call}
 use Rattle.coding.specs.Bytes.{words, bytes_of}
-use Rattle.kinds.specs.Kind.{Kind, frame_kind}
+use Rattle.kinds.specs.Kind.{Kind}
 use Rattle.mr74.specs.declared.EnergiesAnswer.{EnergiesAnswer}
 use Rattle.mr74.specs.Inner.{kind_call}
 use Rattle.capi.specs.Capi.{state_length, unfit, code_of, lent_numbers, state_in, state_bytes, read_return, read_bytes, write_return, write_bytes}

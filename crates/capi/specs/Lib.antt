@@ -1,3 +1,4 @@
 pub mod Capi
 pub mod Frames
 pub mod Gains
+pub mod Lengths

@@ -69,5 +69,4 @@ pub fn mr74_gain_decode(
 /// What a caller may rely on: a refused call of one index leaves the lent energies as they were. A law; it does nothing.
 pub fn gain_unchanged()
     ensures { GainUnchanged }
-{
-}
+{}

@@ -5,6 +5,7 @@ ghost use Rattle.std.specs.Prelude.{◌≡◌, ◌<◌, []};
 ghost use Rattle.outcome.specs.Outcome.{place_of};
 ghost use Rattle.capi.specs.Capi.{code_of, read_return, read_bytes, write_return, write_bytes};
 ghost use Rattle.capi.specs.Frames.{frame_return, frame_bytes, index_bytes, erased_bytes, RefusedUnchanged};
+ghost use Rattle.capi.specs.Lengths.{OtherSheet, OtherOutput, OtherTable};
 
 mod frames;
 mod gains;
@@ -110,8 +111,14 @@ pub fn mr74_frame_erased(
 /// What a caller may rely on: a refused call of any kind leaves the lent state, output and energies as they were. A law; it does nothing.
 pub fn refused_unchanged()
     ensures { RefusedUnchanged }
-{
-}
+{}
+
+/// What bytes come to that are no sheet, no output or no table by their length: 1, 5 or 7. A law; it does nothing.
+pub fn other_lengths()
+    ensures sheet { OtherSheet }
+    ensures output { OtherOutput }
+    ensures table { OtherTable }
+{}
 
 // ---- the reader
 /// The record's reader: the state in `state`, the length of the note, which is what the record begins with, in `note`; both zero where it refuses.

@@ -1,5 +1,5 @@
 -- `capi::call_fit`: each part is read, called and written as its function says.
-use Rattle.std.proofs.Common.{rules, sym}
+use Rattle.std.proofs.Common.{rules}
 use Rattle.lists.proofs.Signed.{entry_fits}
 use Rattle.decoder.proofs.Results.{Held}
 use Rattle.state.proofs.Checks.{taken_fields}
