@@ -1,5 +1,5 @@
 -- `postfilter::tilt_of` meets its contract: its test is the definition's, and the correlation is at most the energy, so that the division is in order.
-use Rattle.std.proofs.Common.{◌≡◌, ap, ◌∙◌, pos, w16, w32, to_z, of_z}
+use Rattle.std.proofs.Common.{◌≡◌, ap, ◌∙◌, ℤ, pos, w16, w32, to_z, of_z}
 use Rattle.lists.proofs.Signed.{got}
 use Rattle.basicop.specs.Ops.{mult, extract_h}
 use Rattle.postfilter.specs.Tilt.{r0, r1}
@@ -14,7 +14,7 @@ zero : (c : After-extract_h-r0) → to_z w16 (of_z w16 c.extract_h-r0.result) �
 zero c = got w16 c.extract_h-r0.type_inv (c.extract_h-r0.ensures ∙ ap extract_h (got w32 c.squares.type_inv c.squares.ensures))
 
 scaled : (c : After-mult) → to_z w16 (of_z w16 c.mult.result) ≡ mult (r1 c.args.h) (pos 26214)
-scaled c = got w16 c.mult.type_inv (c.mult.ensures ∙ rw (one c.before.before.before.before.before))
+scaled c = got w16 c.mult.type_inv (c.mult.ensures ∙ ap (λ (z : ℤ). mult z (pos 26214)) (one c.before.before.before.before.before))
 
 pub returns-then-r1-le0 : goal.returns-then-r1-le0
 returns-then-r1-le0 c = tilt_none c.args.h (rw (one c.before) at c.if-r1-le0.true)
