@@ -14,7 +14,11 @@ pub fn frame(record: &mut Reader) -> Option<bool> {
     };
     let mut samples = [0; 160];
     let answer = mr74::frame_erased(&sheet, state, decoder, &mut samples);
-    energies_agree(record, &given(&answer.frame, samples), answer.gain_decoder.energies)
+    energies_agree(
+        record,
+        &given(&answer.frame, samples),
+        answer.gain_decoder.energies,
+    )
 }
 
 // A frame of the recorded kind of sheet: 0 frame sheet, 1 index sheet, 2 erased sheet. Energies that a call does not take are those after it.
@@ -43,7 +47,11 @@ pub fn mixed(record: &mut Reader) -> Option<bool> {
         }
         _ => return Some(false),
     };
-    energies_agree(record, &given(&answer.frame, samples), answer.gain_decoder.energies)
+    energies_agree(
+        record,
+        &given(&answer.frame, samples),
+        answer.gain_decoder.energies,
+    )
 }
 
 // A refused call of an erased sheet, which gives the energies as they came.

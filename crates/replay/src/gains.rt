@@ -59,7 +59,11 @@ pub fn frame(record: &mut Reader) -> Option<bool> {
     };
     let mut samples = [0; 160];
     let answer = mr74::frame_indexed(&sheet, state, &logs, &pows, decoder, &mut samples);
-    energies_agree(record, &given(&answer.frame, samples), answer.gain_decoder.energies)
+    energies_agree(
+        record,
+        &given(&answer.frame, samples),
+        answer.gain_decoder.energies,
+    )
 }
 
 // A refused call of an index sheet, which gives the energies as they came.

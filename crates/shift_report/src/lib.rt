@@ -65,5 +65,4 @@ pub fn laws()
     ensures mean { MeanFloor }
     ensures bounded { TotalsBounded }
     ensures within { TotalsWithin }
-{
-}
+{}
