@@ -1,4 +1,4 @@
--- "The frame of an index sheet is the frame of the sheet with the gains so obtained" (docs/BENCH.md, "Gains from an index").
+-- "The frame call on an index sheet equals that on the frame sheet with the gains so obtained." (docs/BENCH.md, "Gains from an index".)
 use Rattle.std.specs.Prelude.{◌≡◌, Ok, Bool, true, List, [], ◌∷◌, ◌++◌, ℕ, suc, ℤ, length, take, drop}
 use Rattle.pitch.specs.Lag.{Lag}
 use Rattle.state.specs.declared.State.{State}
