@@ -30,53 +30,53 @@ use Rattle.applied.proofs.Concrete.{fits_by}
 use Rattle.applied.proofs.Examples.{example}
 
 -- ---- each call is accepted where it comes
-steady_passes : SheetPasses frame_kind steady.sheet
+pub steady_passes : SheetPasses frame_kind steady.sheet
 unfolding still_good first_met first_outside first_close
 steady_passes = record { lengths = refl; lsfs = refl; own = refl }
 
-missed_passes : SheetPasses erased_kind still_erased
+pub missed_passes : SheetPasses erased_kind still_erased
 unfolding still_erased first_met first_outside first_close
 missed_passes = record { lengths = refl; lsfs = refl; own = refl }
 
-changing_passes : SheetPasses frame_kind changing_sheet
+pub changing_passes : SheetPasses frame_kind changing_sheet
 unfolding changing_sheet still_good first_met first_outside first_close
 changing_passes = record { lengths = refl; lsfs = refl; own = refl }
 
-steady_fits : (k : ℕ) → SFits w16 (at steady.sheet k)
+pub steady_fits : (k : ℕ) → SFits w16 (at steady.sheet k)
 unfolding still_good
 steady_fits = fits_by steady.sheet refl
 
-missed_fits : (k : ℕ) → SFits w16 (at still_erased k)
+pub missed_fits : (k : ℕ) → SFits w16 (at still_erased k)
 unfolding still_erased
 missed_fits = fits_by still_erased refl
 
-changing_fits : (k : ℕ) → SFits w16 (at changing_sheet k)
+pub changing_fits : (k : ℕ) → SFits w16 (at changing_sheet k)
 unfolding changing_sheet still_good
 changing_fits = fits_by changing_sheet refl
 
-opens : Opens silent
+pub opens : Opens silent
 opens = record { formed = example.well_formed; passes = example.state }
 
-steady_opens : Opens after_steady
+pub steady_opens : Opens after_steady
 steady_opens = next_opens FrameSheet [] steady.sheet steady_passes steady_fits silent opens
 
-missed_opens : Opens after_missed
+pub missed_opens : Opens after_missed
 missed_opens = next_opens ErasedSheet opening_energies still_erased missed_passes missed_fits after_steady steady_opens
 
 -- ---- the concealments between them
-abbrev steady_left : Concealment
+abbrev pub steady_left : Concealment
 steady_left = (comes_to frame_kind [] steady.sheet silent.core.sharpening silent.concealment).concealment
 
-abbrev missed_left : Q14 → Concealment
+abbrev pub missed_left : Q14 → Concealment
 missed_left sharpening = (comes_to erased_kind opening_energies still_erased sharpening steady_left).concealment
 
 abbrev changing_left : Q14 → Q14 → Concealment
 changing_left sharpening before = (comes_to frame_kind [] changing_sheet sharpening (missed_left before)).concealment
 
-steady_is : after_steady.concealment ≡ steady_left
+pub steady_is : after_steady.concealment ≡ steady_left
 steady_is = next_concealment FrameSheet [] steady.sheet steady_passes steady_fits silent opens
 
-missed_is : after_missed.concealment ≡ missed_left after_steady.core.sharpening
+pub missed_is : after_missed.concealment ≡ missed_left after_steady.core.sharpening
 missed_is =
     next_concealment ErasedSheet opening_energies still_erased missed_passes missed_fits after_steady steady_opens
     ∙ conceals ErasedSheet opening_energies still_erased missed_passes missed_fits after_steady steady_opens steady_is
