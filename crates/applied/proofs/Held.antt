@@ -1,6 +1,5 @@
 -- The held frames of specs/Held.antt: that each is accepted on the state before it comes from its own sheet, and the gains are computed from the concealment before it.
-use Rattle.std.proofs.Common.{ℕ, ◌≡◌, refl, ap, ◌∙◌, true, List, [], ◌∷◌, ◌++◌, ℤ, pos, replicate, w16, SFits}
-use Rattle.std.specs.Prelude.{Ok}
+use Rattle.std.proofs.Common.{ℕ, ◌≡◌, refl, ap, ◌∙◌, [], ◌∷◌, ◌++◌, pos, w16, SFits}
 use Rattle.lists.specs.Lists.{at, iter}
 use Rattle.basicop.specs.declared.Q14.{Q14}
 use Rattle.basicop.specs.Ops.{clamp, asr, wrap, add, sub, mult, shl, l_add, l_sub, l_mult, l_shl, l_shr_r, l_deposit_h, doublings, norm_l, l_extract, mpy_32_16}
@@ -18,12 +17,12 @@ use Rattle.gain_concealment.specs.Median.{inserted, sorted}
 use Rattle.gain_concealment.specs.Concealment.{updated, concealed_gains, good_gains}
 use Rattle.state.specs.declared.Concealment.{Concealment}
 use Rattle.state.specs.Layout.{core_of, post_of, concealment_numbers, concealment_of, state_of}
-use Rattle.kinds.specs.Kind.{FrameSheet, ErasedSheet, frame_kind, index_kind, erased_kind, call_outcome}
-use Rattle.kinds.specs.Prepass.{prepared, prepared_after}
+use Rattle.kinds.specs.Kind.{FrameSheet, ErasedSheet, frame_kind, erased_kind, call_outcome}
+use Rattle.kinds.specs.Prepass.{prepared_after}
 use Rattle.applied.specs.Examples.{silent}
 use Rattle.applied.specs.Gains.{log_table, pow_table}
 use Rattle.applied.specs.Indexed.{index_sheet}
-use Rattle.applied.specs.Erased.{Subframe, subframe, subframes}
+use Rattle.applied.specs.Erased.{subframe, subframes}
 use Rattle.applied.specs.Held.{still_good, still_erased, changing_sheet, steady, after_steady, after_missed, after_changing, HeldGains, lowered, lowered_sheet, HeldIndex, LastLags}
 use Rattle.applied.proofs.Accepting.{SheetPasses, Opens, comes_to, call_accepted, next_opens, next_concealment, conceals}
 use Rattle.applied.proofs.Concrete.{fits_by}

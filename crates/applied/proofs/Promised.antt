@@ -1,6 +1,6 @@
 -- What is promised of each kind of sheet, at the sheets and calls of specs/Promised.antt: `accepted_exactly`, `own_gains`, `index_call_gains`, `index_energies`,
 -- `sharpening_is_core`, `answers_traced`, `next_accepted` and `next_well_formed`, applied.
-use Rattle.std.proofs.Common.{ℕ, zero, suc, ◌+◌, ◌<◌, ◌≡◌, refl, ap, ◌∙◌, true, List, [], ◌∷◌, ◌++◌, arith, lit<, ℤ, pos, length, replicate, ◌≤ℤ◌, w16, SFits}
+use Rattle.std.proofs.Common.{ℕ, zero, suc, ◌<◌, ◌≡◌, refl, ap, ◌∙◌, true, List, [], ◌∷◌, ◌++◌, arith, lit<, ℤ, pos, length, replicate, ◌≤ℤ◌, w16, SFits}
 use Rattle.std.proofs.lemmas.List.{get_or-replicate}
 use lib.Signed.{le_z_yes}
 use Rattle.std.specs.Prelude.{Ok, Err}
@@ -19,23 +19,21 @@ use Rattle.logarithm.specs.Pow2.{pow2}
 use Rattle.gain_table.specs.Rows.{gain_table, gain_row}
 use Rattle.gain.specs.declared.GainAnswer.{GainAnswer}
 use Rattle.gain.specs.Gain.{predicted_gain, code_gain, decoded_gains, average_energy}
-use Rattle.gain.specs.Call.{opening_energies, gain_call}
+use Rattle.gain.specs.Call.{opening_energies}
 use Rattle.gain.specs.Checks.{is_table}
 use Rattle.gain_concealment.specs.Median.{inserted, sorted}
 use Rattle.gain_concealment.specs.Concealment.{updated, concealed_gains, good_gains}
-use Rattle.state.specs.declared.Concealment.{Concealment}
 use Rattle.state.specs.declared.State.{State}
 use Rattle.state.specs.State.{state_outcome}
 use Rattle.state.specs.Layout.{core_of, post_of, concealment_of, state_of}
-use Rattle.kinds.specs.declared.GainMemory.{GainMemory}
 use Rattle.kinds.specs.Checks.{lsf_checks}
-use Rattle.kinds.specs.Kind.{SheetKind, FrameSheet, IndexSheet, ErasedSheet, kind_of, frame_kind, index_kind, erased_kind, call_outcome, index_decoded}
+use Rattle.kinds.specs.Kind.{SheetKind, FrameSheet, IndexSheet, ErasedSheet, kind_of, frame_kind, erased_kind, call_outcome, index_decoded}
 use Rattle.kinds.specs.Prepass.{prepared, prepared_after}
 use Rattle.kinds.specs.Accepted.{PitchIndices, GainsKept, GainIndices, OwnKept, CallKept}
 use Rattle.kinds.proofs.Groups.{lsfs_range, gaps_accept}
 use Rattle.kinds.proofs.Accepted.{accepted_exactly}
 use Rattle.kinds.proofs.GainLaws.{own_gains, index_call_gains, index_energies}
-use Rattle.mr74.specs.Frame.{CallResult, EnergiesResult, Trace, energies_result_of, call_trace, frame_call, index_call, erased_call}
+use Rattle.mr74.specs.Frame.{CallResult, EnergiesResult, Trace, energies_result_of, call_trace}
 use Rattle.calls.specs.Calls.{trace_of}
 use Rattle.calls.proofs.Answers.{answers_traced}
 use Rattle.calls.proofs.Calls.{next_accepted, next_well_formed}
@@ -46,7 +44,7 @@ use Rattle.applied.specs.Indexed.{index_sheet, out, tabled_call, tableless_call}
 use Rattle.applied.specs.Erased.{erased_sheet, stage_7}
 use Rattle.applied.specs.Retries.{loud_energies, loud_index, loud_index_call, voiced, loud_erased, loud_erased_call}
 use Rattle.applied.specs.Held.{still_good, still_erased, changing_sheet, after_steady, after_missed, lowered_numbers, lowered}
-use Rattle.applied.specs.Promised.{Facts, PitchFacts, FrameAccepted, standard, IndexAccepted, ErasedAccepted, OwnApplied, answered, begun, IndexGainsApplied, SharpeningApplied, Told, AnswersApplied, NextApplied}
+use Rattle.applied.specs.Promised.{Facts, PitchFacts, FrameAccepted, standard, IndexAccepted, ErasedAccepted, OwnApplied, answered, IndexGainsApplied, SharpeningApplied, Told, AnswersApplied, NextApplied}
 use Rattle.applied.proofs.Accepting.{SheetPasses, Opens, left_by, sharpenings_are}
 use Rattle.applied.proofs.Concrete.{fits_by, words_by, numbers_well_formed}
 use Rattle.applied.proofs.Examples.{example}

@@ -1,12 +1,12 @@
 -- What is promised of each kind of sheet (kinds/specs/Accepted.antt and Laws.antt, mr74/specs/Sharpening.antt, calls/specs/Calls.antt) applied to sheets and calls of each
 -- kind, with what it comes to written out in numbers. The theorems are in proofs/Promised.antt.
-use Rattle.std.specs.Prelude.{◌≡◌, Ok, Err, true, List, [], ◌∷◌, ◌++◌, map, ℕ, ◌+◌, ℤ, pos, ◌+ℤ◌, length, replicate, ◌≤ℤ◌}
+use Rattle.std.specs.Prelude.{◌≡◌, Ok, Err, true, List, [], ◌∷◌, ◌++◌, map, ℕ, ℤ, pos, ◌+ℤ◌, length, replicate, ◌≤ℤ◌}
 use Rattle.lists.specs.Lists.{minus, at, Every}
 use Rattle.pitch.specs.Lag.{Lag}
 use Rattle.excitation.specs.Excitation.{sharpened}
 use Rattle.decoder.specs.Inputs.{SubframeInputs}
 use Rattle.decoder.specs.Core.{SubframeResult}
-use Rattle.outcome.specs.declared.Refusal.TheVariants.{SheetLength, Table, Stage}
+use Rattle.outcome.specs.declared.Refusal.TheVariants.{Table, Stage}
 use Rattle.outcome.specs.Outcome.{is_accepted}
 use Rattle.gain.specs.declared.GainAnswer.{GainAnswer}
 use Rattle.gain.specs.Call.{opening_energies, gain_call}
@@ -15,15 +15,15 @@ use Rattle.state.specs.State.{WellFormed, state_outcome}
 use Rattle.kinds.specs.declared.GainMemory.{GainMemory}
 use Rattle.kinds.specs.Kind.{Kind, frame_kind, index_kind, erased_kind, call_outcome}
 use Rattle.kinds.specs.Prepass.{prepared}
-use Rattle.mr74.specs.Frame.{EnergiesResult, CallResult, Trace, frame_call, index_call, erased_call}
-use Rattle.calls.specs.Calls.{Call, trace_of, next_state}
+use Rattle.mr74.specs.Frame.{EnergiesResult, Trace, frame_call, index_call, erased_call}
+use Rattle.calls.specs.Calls.{trace_of, next_state}
 use Rattle.applied.specs.Examples.{index_sheet_call, erased_sheet_call, silent, loud, call}
 use Rattle.applied.specs.Gains.{log_table, pow_table}
 use Rattle.applied.specs.Refusals.{lowest}
 use Rattle.applied.specs.Indexed.{index_sheet, out, energies_left, tabled_call, tableless_call}
 use Rattle.applied.specs.Erased.{erased_sheet, stage_7}
 use Rattle.applied.specs.Retries.{loud_energies, loud_index, loud_index_call, voiced, loud_erased, loud_erased_call}
-use Rattle.applied.specs.Held.{steady, missed, changing, after_steady, after_missed, lowered}
+use Rattle.applied.specs.Held.{missed, changing, after_steady, after_missed, lowered}
 
 -- ---- AcceptedExactly: what every accepted call has shown, whose sheet has n numbers
 pub record Facts (n : ℕ) (sheet : List ℤ) (s : State) (room : ℕ) : Type 0 where
