@@ -14,7 +14,7 @@ use Rattle.measure.specs.Machine.{Machine, held_samples}
 use Rattle.measure.specs.CallList.{AsMeasured, SubframesAsMeasured, AcceptedCall, RefusedCall, ListAsMeasured}
 use Rattle.measure.proofs.CallList.{every_list_as_measured}
 use Rattle.applied.specs.Examples.{silent, calls, Seen, expected}
-use Rattle.applied.specs.CallList.{first, second, opened, after_call, last, AfterList, Lengths, Placed, Retried, Unretried, AsPlaced, Claim, RetriedIn, Subframes, AcceptedOne, RefusedOne, FirstCall, SecondCall, TwoCalls}
+use Rattle.applied.specs.CallList.{first, second, opened, after_call, last, AfterList, Lengths, Placed, Retried, Unretried, AsPlaced, Claim, RetriedIn, AcceptedOne, RefusedOne, FirstCall, SecondCall, TwoCalls}
 use Rattle.applied.proofs.Examples.{example, refused_trace_lem}
 
 -- ---- a subframe

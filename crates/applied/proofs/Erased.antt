@@ -1,6 +1,6 @@
 -- The erased frames of specs/Erased.antt: what the sheets come to, computed from the definition; `accepted_exactly`, `erased_gains`, `sorted_kept`, `median_of_any`,
 -- `concealed_in_range`, `next_accepted`, `next_well_formed`, `fields_placed`, `index_is_frame` and `every_list_as_measured`, applied.
-use Rattle.std.proofs.Common.{◌≡◌, refl, sym, ap, ◌∙◌, ℕ, ◌<◌, true, false, List, [], ◌∷◌, map, lit<, lit≤, ℤ, pos, replicate, w16}
+use Rattle.std.proofs.Common.{◌≡◌, refl, ap, ◌∙◌, true, false, List, [], ◌∷◌, map, lit<, ℤ, pos, replicate}
 use mathlib.Core.List.{flat_map}
 use mathlib.Core.List.Perm
 use lib.Signed.{le_z_yes}
@@ -8,7 +8,7 @@ use Rattle.std.specs.Prelude.{Ok}
 use Rattle.lists.specs.Lists.{iter, tab, Every}
 use Rattle.lists.proofs.Entries.{every_map}
 use Rattle.basicop.specs.Ops.{clamp, asr, wrap, add, sub, mult, shl, l_add, l_sub, l_mult, l_shl, l_shr_r, l_deposit_h, doublings, norm_l, div_s, l_extract, mpy_32_16}
-use Rattle.pitch.specs.Lag.{Lag, absolute, lag_min, relative, concealed_lag}
+use Rattle.pitch.specs.Lag.{absolute, lag_min, relative, concealed_lag}
 use Rattle.spectral.specs.Lsp.{cosine, between, lsp_of}
 use Rattle.lpc.specs.Rows.{raised_at, polynomial, row_of, rows_of}
 use Rattle.adaptive.specs.Predict.{inter6, phase, start, interpolated, extended, predicted}

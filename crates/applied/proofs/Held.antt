@@ -1,6 +1,5 @@
 -- The held frames of specs/Held.antt: that each is accepted on the state before it comes from its own sheet, and the gains are computed from the concealment before it.
-use Rattle.std.proofs.Common.{ℕ, ◌≡◌, refl, ap, ◌∙◌, true, List, [], ◌∷◌, ◌++◌, ℤ, pos, replicate, w16, SFits}
-use Rattle.std.specs.Prelude.{Ok}
+use Rattle.std.proofs.Common.{ℕ, ◌≡◌, refl, ap, ◌∙◌, [], ◌∷◌, ◌++◌, pos, w16, SFits}
 use Rattle.lists.specs.Lists.{at, iter}
 use Rattle.basicop.specs.declared.Q14.{Q14}
 use Rattle.basicop.specs.Ops.{clamp, asr, wrap, add, sub, mult, shl, l_add, l_sub, l_mult, l_shl, l_shr_r, l_deposit_h, doublings, norm_l, l_extract, mpy_32_16}
@@ -18,65 +17,65 @@ use Rattle.gain_concealment.specs.Median.{inserted, sorted}
 use Rattle.gain_concealment.specs.Concealment.{updated, concealed_gains, good_gains}
 use Rattle.state.specs.declared.Concealment.{Concealment}
 use Rattle.state.specs.Layout.{core_of, post_of, concealment_numbers, concealment_of, state_of}
-use Rattle.kinds.specs.Kind.{FrameSheet, ErasedSheet, frame_kind, index_kind, erased_kind, call_outcome}
-use Rattle.kinds.specs.Prepass.{prepared, prepared_after}
+use Rattle.kinds.specs.Kind.{FrameSheet, ErasedSheet, frame_kind, erased_kind, call_outcome}
+use Rattle.kinds.specs.Prepass.{prepared_after}
 use Rattle.applied.specs.Examples.{silent}
 use Rattle.applied.specs.Gains.{log_table, pow_table}
 use Rattle.applied.specs.Indexed.{index_sheet}
-use Rattle.applied.specs.Erased.{Subframe, subframe, subframes}
+use Rattle.applied.specs.Erased.{subframe, subframes}
 use Rattle.applied.specs.Held.{still_good, still_erased, changing_sheet, steady, after_steady, after_missed, after_changing, HeldGains, lowered, lowered_sheet, HeldIndex, LastLags}
 use Rattle.applied.proofs.Accepting.{SheetPasses, Opens, comes_to, call_accepted, next_opens, next_concealment, conceals}
 use Rattle.applied.proofs.Concrete.{fits_by}
 use Rattle.applied.proofs.Examples.{example}
 
 -- ---- each call is accepted where it comes
-steady_passes : SheetPasses frame_kind steady.sheet
+pub steady_passes : SheetPasses frame_kind steady.sheet
 unfolding still_good first_met first_outside first_close
 steady_passes = record { lengths = refl; lsfs = refl; own = refl }
 
-missed_passes : SheetPasses erased_kind still_erased
+pub missed_passes : SheetPasses erased_kind still_erased
 unfolding still_erased first_met first_outside first_close
 missed_passes = record { lengths = refl; lsfs = refl; own = refl }
 
-changing_passes : SheetPasses frame_kind changing_sheet
+pub changing_passes : SheetPasses frame_kind changing_sheet
 unfolding changing_sheet still_good first_met first_outside first_close
 changing_passes = record { lengths = refl; lsfs = refl; own = refl }
 
-steady_fits : (k : ℕ) → SFits w16 (at steady.sheet k)
+pub steady_fits : (k : ℕ) → SFits w16 (at steady.sheet k)
 unfolding still_good
 steady_fits = fits_by steady.sheet refl
 
-missed_fits : (k : ℕ) → SFits w16 (at still_erased k)
+pub missed_fits : (k : ℕ) → SFits w16 (at still_erased k)
 unfolding still_erased
 missed_fits = fits_by still_erased refl
 
-changing_fits : (k : ℕ) → SFits w16 (at changing_sheet k)
+pub changing_fits : (k : ℕ) → SFits w16 (at changing_sheet k)
 unfolding changing_sheet still_good
 changing_fits = fits_by changing_sheet refl
 
-opens : Opens silent
+pub opens : Opens silent
 opens = record { formed = example.well_formed; passes = example.state }
 
-steady_opens : Opens after_steady
+pub steady_opens : Opens after_steady
 steady_opens = next_opens FrameSheet [] steady.sheet steady_passes steady_fits silent opens
 
-missed_opens : Opens after_missed
+pub missed_opens : Opens after_missed
 missed_opens = next_opens ErasedSheet opening_energies still_erased missed_passes missed_fits after_steady steady_opens
 
 -- ---- the concealments between them
-abbrev steady_left : Concealment
+abbrev pub steady_left : Concealment
 steady_left = (comes_to frame_kind [] steady.sheet silent.core.sharpening silent.concealment).concealment
 
-abbrev missed_left : Q14 → Concealment
+abbrev pub missed_left : Q14 → Concealment
 missed_left sharpening = (comes_to erased_kind opening_energies still_erased sharpening steady_left).concealment
 
 abbrev changing_left : Q14 → Q14 → Concealment
 changing_left sharpening before = (comes_to frame_kind [] changing_sheet sharpening (missed_left before)).concealment
 
-steady_is : after_steady.concealment ≡ steady_left
+pub steady_is : after_steady.concealment ≡ steady_left
 steady_is = next_concealment FrameSheet [] steady.sheet steady_passes steady_fits silent opens
 
-missed_is : after_missed.concealment ≡ missed_left after_steady.core.sharpening
+pub missed_is : after_missed.concealment ≡ missed_left after_steady.core.sharpening
 missed_is =
     next_concealment ErasedSheet opening_energies still_erased missed_passes missed_fits after_steady steady_opens
     ∙ conceals ErasedSheet opening_energies still_erased missed_passes missed_fits after_steady steady_opens steady_is

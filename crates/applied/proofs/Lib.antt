@@ -10,6 +10,7 @@ pub mod CallList
 pub mod Erased
 pub mod Retries
 pub mod Held
+pub mod Promised
 pub mod Divisions
 pub mod Calls
 pub mod Handover

@@ -1,5 +1,5 @@
 -- The index frame and the erased frame of specs/Retries.antt, computed from the definition; `every_list_as_measured` and `every_division`, applied.
-use Rattle.std.proofs.Common.{◌≡◌, refl, sym, ap, ◌∙◌, true, false, List, [], ◌∷◌, ℕ, ℤ, pos, length, replicate, get_or}
+use Rattle.std.proofs.Common.{◌≡◌, refl, sym, ap, ◌∙◌, true, false, [], ◌∷◌, pos, length, replicate, get_or}
 use mathlib.Core.List.{flat_map}
 use Rattle.std.specs.Prelude.{Ok}
 use Rattle.lists.specs.Lists.{minus, at, iter, tab}
@@ -40,13 +40,13 @@ use Rattle.kinds.specs.Kind.{index_kind, erased_kind, call_outcome}
 use Rattle.kinds.specs.Prepass.{prepared, prepared_after}
 use Rattle.mr74.specs.Frame.{call_trace}
 use Rattle.mr74.proofs.Divisions.{every_division}
-use Rattle.calls.specs.Calls.{trace_of, next_state, run_calls, state_after, accepted, latest_place}
+use Rattle.calls.specs.Calls.{trace_of, next_state, state_after, accepted}
 use Rattle.applied.specs.Examples.{silent, Seen, seen}
 use Rattle.applied.specs.CallList.{RetriedIn, Unretried, TwoCalls}
 use Rattle.applied.specs.Gains.{log_table, pow_table}
 use Rattle.applied.specs.Indexed.{index_sheet, out, tableless_call}
 use Rattle.applied.specs.Erased.{erased_sheet, stage_7}
-use Rattle.applied.specs.Retries.{loud_energies, loud_index, loud_index_call, index_seen, index_calls, IndexRetries, voiced_numbers, voiced, loud_erased, loud_erased_call, erased_seen, erased_calls, ErasedRetries}
+use Rattle.applied.specs.Retries.{loud_energies, loud_index, loud_index_call, index_seen, IndexRetries, voiced_numbers, voiced, loud_erased, loud_erased_call, erased_seen, ErasedRetries}
 use Rattle.applied.proofs.Concrete.{numbers_well_formed, words_by}
 use Rattle.applied.proofs.Examples.{example}
 use Rattle.applied.proofs.CallList.{two_calls, retried_in, unretried, latest_is}

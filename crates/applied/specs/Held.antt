@@ -78,8 +78,11 @@ pub record HeldGains : Type 0 where
 
 -- ---- the index sheet of Indexed.antt after an erased frame, with the last good gains 1000 and 32767: the pitch gain that is used, and not the decoded one, sharpens the
 -- innovation of the next subframe, so that the later code gains are decoded as others; and they are held to the second's
+abbrev pub lowered_numbers : List ℤ
+lowered_numbers = replicate 197 (pos 0) ++ (pos 40 ∷ (replicate 12 (pos 0) ++ (pos 1000 ∷ pos 32767 ∷ pos 1 ∷ [])))
+
 unfoldable pub lowered : State
-lowered = state_of (replicate 197 (pos 0) ++ (pos 40 ∷ (replicate 12 (pos 0) ++ (pos 1000 ∷ pos 32767 ∷ pos 1 ∷ []))))
+lowered = state_of lowered_numbers
 
 unfoldable pub lowered_sheet : List ℤ
 lowered_sheet =
