@@ -1,4 +1,4 @@
--- Document 01's starred values ("Values to hold"), as one statement over one list, about the definitions. The theorem is `starred_hold` in
+-- The starred values (docs/BENCH.md, "Values to hold"), as one statement over one list, about the definitions. The theorem is `starred_hold` in
 -- proofs/Starred.antt; `starred_applied` takes some of them out again.
 use Rattle.std.specs.Prelude.{◌≡◌, List, [], ◌∷◌, ℤ, pos, replicate}
 use Rattle.lists.specs.Lists.{minus}
@@ -9,7 +9,7 @@ use Rattle.energy.specs.Energy.{energy}
 use Rattle.energy.specs.Root.{inverse_root}
 use Rattle.synthesis.specs.Synthesis.{overflowed_at}
 
--- what the definition gives, and what the paper has
+-- what the definition gives, and what docs/BENCH.md has
 pub record Value : Type 0 where
   pub given : ℤ
   pub paper : ℤ

@@ -97,7 +97,7 @@ pub record ListAsMeasured (s : State) (cs : List Call) : Type 0 where
   pub calls : EachCall s (opening s) cs
 
 -- from any accepted state, for every list of calls of every kind, refused ones included, of any sheets, outputs, tables and energies, the empty list too. (Every state of
--- the code is well-formed: `state::laws`.) That the opening state is accepted stands here for the reader: the proof does not need it (`list_as_measured` has the claim
+-- the code is well-formed: `state::formed`.) That the opening state is accepted stands here for the reader: the proof does not need it (`list_as_measured` has the claim
 -- without it), since from a state that is turned back no call is accepted
 abbrev pub EveryListAsMeasured : Type 0
 EveryListAsMeasured = (s : State) → WellFormed s → state_outcome s ≡ Ok tt → (cs : List Call) → ListAsMeasured s cs

@@ -19,14 +19,11 @@ pub fn match_energy(record: &mut Reader) -> Option<bool> {
 }
 
 pub fn gain_control(record: &mut Reader) -> Option<bool> {
-    let control = GainControl {
+    let mut control = GainControl {
         previous_gain: record.number()?,
     };
-    let controlled = energy::control_gain(control, record.numbers()?, record.numbers()?);
-    Some(
-        record.numbers()? == controlled.samples
-            && record.number()? == controlled.control.previous_gain,
-    )
+    let samples = energy::process(&mut control, record.numbers()?, record.numbers()?);
+    Some(record.numbers()? == samples && record.number()? == control.previous_gain)
 }
 
 // The first pass, whose samples are not compared where a step clamped; then the clamped pass, and the history after it.
