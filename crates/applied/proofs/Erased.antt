@@ -91,6 +91,7 @@ erased_values =
       lost_fields = ap (λ (c : Concealment). concealment_numbers c) fields_are ∙ refl;
       samples = silence;
       energies = energies_are ∙ refl;
+      clamped_energies = refl;
       good_fields = refl;
       later_subframes = refl;
       held_pitch = refl;

@@ -1,11 +1,13 @@
 -- The held frames of specs/Held.antt: that each is accepted on the state before it comes from its own sheet, and the gains are computed from the concealment before it.
 use Rattle.std.proofs.Common.{ℕ, ◌≡◌, refl, ap, ◌∙◌, [], ◌∷◌, ◌++◌, pos, w16, SFits}
-use Rattle.lists.specs.Lists.{at, iter}
+use Rattle.std.specs.Prelude.{Ok}
+use Rattle.lists.specs.Lists.{minus, at, iter}
 use Rattle.basicop.specs.declared.Q14.{Q14}
 use Rattle.basicop.specs.Ops.{clamp, asr, wrap, add, sub, mult, shl, l_add, l_sub, l_mult, l_shl, l_shr_r, l_deposit_h, doublings, norm_l, l_extract, mpy_32_16}
 use Rattle.pitch.specs.Lag.{absolute, lag_min, relative, concealed_lag}
 use Rattle.excitation.specs.Excitation.{sharpened, sharpening}
 use Rattle.energy.specs.Energy.{squares}
+use Rattle.outcome.specs.Outcome.{is_accepted}
 use Rattle.outcome.specs.Checks.{first_met, first_outside, first_close}
 use Rattle.logarithm.specs.Log2.{log2}
 use Rattle.logarithm.specs.Pow2.{pow2}
@@ -17,11 +19,13 @@ use Rattle.gain_concealment.specs.Median.{inserted, sorted}
 use Rattle.gain_concealment.specs.Concealment.{updated, concealed_gains, good_gains}
 use Rattle.state.specs.declared.Concealment.{Concealment}
 use Rattle.state.specs.Layout.{core_of, post_of, concealment_numbers, concealment_of, state_of}
-use Rattle.kinds.specs.Kind.{FrameSheet, ErasedSheet, frame_kind, erased_kind, call_outcome}
-use Rattle.kinds.specs.Prepass.{prepared_after}
-use Rattle.applied.specs.Examples.{silent}
+use Rattle.kinds.specs.Kind.{FrameSheet, ErasedSheet, frame_kind, index_kind, erased_kind, call_outcome}
+use Rattle.kinds.specs.Prepass.{prepared, prepared_after}
+use Rattle.mr74.specs.Indexed.{decoded_sheet}
+use Rattle.mr74.proofs.Indexed.{index_is_frame}
+use Rattle.applied.specs.Examples.{silent, lag}
 use Rattle.applied.specs.Gains.{log_table, pow_table}
-use Rattle.applied.specs.Indexed.{index_sheet}
+use Rattle.applied.specs.Indexed.{index_sheet, out}
 use Rattle.applied.specs.Erased.{subframe, subframes}
 use Rattle.applied.specs.Held.{still_good, still_erased, changing_sheet, steady, after_steady, after_missed, after_changing, HeldGains, lowered, lowered_sheet, HeldIndex, LastLags}
 use Rattle.applied.proofs.Accepting.{SheetPasses, Opens, comes_to, call_accepted, next_opens, next_concealment, conceals}
@@ -130,9 +134,34 @@ held_gains =
     }
 
 -- ---- the index frame, and the last lags
-pub held_index : HeldIndex
+record Lowered : Type 0 where
+  accepted : call_outcome (index_kind log_table pow_table) index_sheet lowered 160 ≡ Ok tt
+  decoded : decoded_sheet log_table pow_table opening_energies index_sheet lowered ≡ lowered_sheet
+  held :
+      subframes (prepared (index_kind log_table pow_table) opening_energies index_sheet lowered)
+      ≡ record { lag = lag 21 (minus 1); pitch = pos 1000; code = pos 32767 }
+      ∷ record { lag = lag 21 (pos 1); pitch = pos 1000; code = pos 1802 }
+      ∷ record { lag = lag 25 (pos 1); pitch = pos 1000; code = pos 1802 }
+      ∷ record { lag = lag 27 (minus 1); pitch = pos 1000; code = pos 1802 }
+      ∷ []
+  energies : (prepared (index_kind log_table pow_table) opening_energies index_sheet lowered).energies ≡ pos 9221 ∷ pos 7413 ∷ pos 12853 ∷ pos 5816 ∷ []
+
+computed : Lowered
 unfolding iter clamp asr wrap add sub mult shl l_add l_sub l_mult l_shl l_shr_r l_deposit_h doublings norm_l l_extract mpy_32_16 absolute lag_min relative sharpened sharpening squares log2 pow2 gain_table gain_row predicted_gain code_gain decoded_gains is_table state_of core_of post_of concealment_of updated good_gains prepared_after first_met first_outside first_close call_outcome lowered lowered_sheet index_sheet log_table pow_table
-held_index = record { accepted = refl; decoded = refl; held = refl; energies = refl }
+computed = record { accepted = refl; decoded = refl; held = refl; energies = refl }
+
+-- the frame itself stays shut
+pub held_index : HeldIndex
+held_index =
+    let same = index_is_frame log_table pow_table opening_energies index_sheet lowered out (ap is_accepted computed.accepted) in
+    record {
+      accepted = computed.accepted;
+      decoded = computed.decoded;
+      held = computed.held;
+      frame_accepted = rw computed.decoded at same.accepted;
+      trace = rw computed.decoded at same.trace;
+      energies = computed.energies;
+    }
 
 pub last_lags : LastLags
 unfolding iter clamp asr add sub mult concealed_lag average_energy inserted sorted updated concealed_gains prepared_after state_of core_of post_of concealment_of first_met first_outside first_close call_outcome still_erased

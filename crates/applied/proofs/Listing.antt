@@ -25,9 +25,9 @@ use Rattle.outcome.specs.Checks.{first_met, first_outside, first_close}
 use Rattle.state.specs.State.{state_outcome}
 use Rattle.gain_concealment.specs.Concealment.{good_gains}
 use Rattle.state.specs.Layout.{core_of, post_of, concealment_of, state_of}
-use Rattle.mr74.specs.Sheet.{frame_prepared}
-use Rattle.mr74.specs.Checks.{call_outcome}
-use Rattle.mr74.specs.Frame.{frame_trace}
+use Rattle.kinds.specs.Kind.{call_outcome}
+use Rattle.kinds.specs.Prepass.{prepared_after}
+use Rattle.mr74.specs.Frame.{call_trace}
 use Rattle.coding.specs.Bytes.{words, bytes_of}
 use Rattle.record.specs.Record.{read_call, record_outcome}
 use Rattle.lines.specs.Lines.{spelled, decimal, largest, peak_of, any_of, mark_of, frame_line, refused_line, cut_line, state_line}
@@ -43,20 +43,20 @@ use Rattle.applied.specs.Listing.{input, output, gap_input, gap_output, Listing,
 
 -- ---- computed: the sheets of the listing are refused, so that nothing is decoded
 bench_lines : bench_output input ≡ output
-unfolding first_met first_outside first_close call_outcome frame_trace frame_call state_of concealment_of core_of post_of state_outcome words read_call record_outcome spelled decimal refused_line cut_line sheets_of sheet_call answer_line sheet_lines bench_output input
+unfolding first_met first_outside first_close call_outcome call_trace frame_call state_of concealment_of core_of post_of state_outcome words read_call record_outcome spelled decimal refused_line cut_line sheets_of sheet_call answer_line sheet_lines bench_output input
 bench_lines = refl
 
 report_line_lem : report_output input ≡ codes "0 2 0 0 none\n"
-unfolding first_met first_outside first_close call_outcome frame_trace state_of concealment_of core_of post_of state_outcome words read_call record_outcome spelled decimal sheets_of input one_if run_calls accepted_count refused_count retried_total square_total peak_total whole_sheets sheet_traces mean_field report_line report_output
+unfolding first_met first_outside first_close call_outcome call_trace state_of concealment_of core_of post_of state_outcome words read_call record_outcome spelled decimal sheets_of input one_if run_calls accepted_count refused_count retried_total square_total peak_total whole_sheets sheet_traces mean_field report_line report_output
 report_line_lem = refl
 
 -- one of the others is decoded
 gap_lines : bench_output gap_input ≡ gap_output
-unfolding flat_map iter tab clamp asr wrap add sub mult shl l_add l_sub l_mult l_shl l_shr_r l_deposit_h doublings norm_l div_s l_extract mpy_32_16 absolute lag_min relative cosine between lsp_of raised_at polynomial row_of rows_of inter6 phase start interpolated extended predicted sharpened sharpening feedback squares energy energy_gain agc2 inverse_table root_scaled inverse_root outside recursion step_numbers some_outside some_list_outside first_list_outside acc accs enhanced first_excitation synthesis_result excitations subframe_result subframe_results core_result first_met state_of concealment_of core_of post_of first_outside first_close call_outcome frame_trace numerator denominator weighted residual_sum residual tilts.impulse tilts.correlation tilts.tilt_of tilts.tilt preemphasised filter_result postfilter_result agc controlled words read_call record_outcome spelled decimal largest peak_of any_of mark_of frame_line refused_line cut_line frame_call sheets_of sheet_call answer_line sheet_lines bench_output input gap_input loud bytes_of state_outcome one_if run_calls retried_in square_sum accepted_count refused_count retried_total square_total peak_total whole_sheets sheet_traces mean_of mean_field report_line report_output frame_prepared good_gains
+unfolding flat_map iter tab clamp asr wrap add sub mult shl l_add l_sub l_mult l_shl l_shr_r l_deposit_h doublings norm_l div_s l_extract mpy_32_16 absolute lag_min relative cosine between lsp_of raised_at polynomial row_of rows_of inter6 phase start interpolated extended predicted sharpened sharpening feedback squares energy energy_gain agc2 inverse_table root_scaled inverse_root outside recursion step_numbers some_outside some_list_outside first_list_outside acc accs enhanced first_excitation synthesis_result excitations subframe_result subframe_results core_result first_met state_of concealment_of core_of post_of first_outside first_close call_outcome call_trace numerator denominator weighted residual_sum residual tilts.impulse tilts.correlation tilts.tilt_of tilts.tilt preemphasised filter_result postfilter_result agc controlled words read_call record_outcome spelled decimal largest peak_of any_of mark_of frame_line refused_line cut_line frame_call sheets_of sheet_call answer_line sheet_lines bench_output input gap_input loud bytes_of state_outcome one_if run_calls retried_in square_sum accepted_count refused_count retried_total square_total peak_total whole_sheets sheet_traces mean_of mean_field report_line report_output prepared_after good_gains
 gap_lines = refl
 
 gap_report : report_output gap_input ≡ codes "1 5 0 0 0\n"
-unfolding flat_map iter tab clamp asr wrap add sub mult shl l_add l_sub l_mult l_shl l_shr_r l_deposit_h doublings norm_l div_s l_extract mpy_32_16 absolute lag_min relative cosine between lsp_of raised_at polynomial row_of rows_of inter6 phase start interpolated extended predicted sharpened sharpening feedback squares energy energy_gain agc2 inverse_table root_scaled inverse_root outside recursion step_numbers some_outside some_list_outside first_list_outside acc accs enhanced first_excitation synthesis_result excitations subframe_result subframe_results core_result first_met state_of concealment_of core_of post_of first_outside first_close call_outcome frame_trace numerator denominator weighted residual_sum residual tilts.impulse tilts.correlation tilts.tilt_of tilts.tilt preemphasised filter_result postfilter_result agc controlled words read_call record_outcome spelled decimal largest peak_of any_of mark_of frame_line refused_line cut_line frame_call sheets_of sheet_call answer_line sheet_lines bench_output input gap_input loud bytes_of state_outcome one_if run_calls retried_in square_sum accepted_count refused_count retried_total square_total peak_total whole_sheets sheet_traces mean_of mean_field report_line report_output frame_prepared good_gains
+unfolding flat_map iter tab clamp asr wrap add sub mult shl l_add l_sub l_mult l_shl l_shr_r l_deposit_h doublings norm_l div_s l_extract mpy_32_16 absolute lag_min relative cosine between lsp_of raised_at polynomial row_of rows_of inter6 phase start interpolated extended predicted sharpened sharpening feedback squares energy energy_gain agc2 inverse_table root_scaled inverse_root outside recursion step_numbers some_outside some_list_outside first_list_outside acc accs enhanced first_excitation synthesis_result excitations subframe_result subframe_results core_result first_met state_of concealment_of core_of post_of first_outside first_close call_outcome call_trace numerator denominator weighted residual_sum residual tilts.impulse tilts.correlation tilts.tilt_of tilts.tilt preemphasised filter_result postfilter_result agc controlled words read_call record_outcome spelled decimal largest peak_of any_of mark_of frame_line refused_line cut_line frame_call sheets_of sheet_call answer_line sheet_lines bench_output input gap_input loud bytes_of state_outcome one_if run_calls retried_in square_sum accepted_count refused_count retried_total square_total peak_total whole_sheets sheet_traces mean_of mean_field report_line report_output prepared_after good_gains
 gap_report = refl
 
 pub listing : Listing

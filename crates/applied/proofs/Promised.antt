@@ -33,6 +33,7 @@ use Rattle.kinds.specs.Accepted.{PitchIndices, GainsKept, GainIndices, OwnKept, 
 use Rattle.kinds.proofs.Groups.{lsfs_range, gaps_accept}
 use Rattle.kinds.proofs.Accepted.{accepted_exactly}
 use Rattle.kinds.proofs.GainLaws.{own_gains, index_call_gains, index_energies}
+use Rattle.mr74.proofs.Sharpening.{sharpening_is_core}
 use Rattle.mr74.specs.Frame.{CallResult, EnergiesResult, Trace, energies_result_of, call_trace}
 use Rattle.calls.specs.Calls.{trace_of}
 use Rattle.calls.proofs.Answers.{answers_traced}
@@ -234,6 +235,7 @@ held_left = refl
 pub sharpening_applied : SharpeningApplied
 sharpening_applied =
     record {
+      opened = λ energies s. ap (λ (q : Q14). q.0) (sharpening_is_core FrameSheet energies [] s).opened;
       frame =
           sharpenings_are FrameSheet [] changing_sheet changing_passes changing_fits after_missed missed_opens
           ∙ ap (left_by frame_kind [] changing_sheet after_missed.core.sharpening) missed_is

@@ -6,8 +6,8 @@ use Rattle.state.specs.State.{state_outcome}
 use Rattle.state.specs.Layout.{core_of, post_of, concealment_of, state_of}
 use Rattle.coding.specs.Bytes.{words}
 use Rattle.record.specs.Record.{read_call, record_outcome}
-use Rattle.mr74.specs.Checks.{call_outcome}
-use Rattle.mr74.specs.Frame.{frame_trace}
+use Rattle.kinds.specs.Kind.{call_outcome}
+use Rattle.mr74.specs.Frame.{call_trace}
 use Rattle.calls.specs.Calls.{run_calls}
 use Rattle.lines.specs.Lines.{spelled, decimal, largest, peak_of, state_line}
 use Rattle.sheets.specs.Sheets.{sheets_of}
@@ -37,7 +37,7 @@ mean_is = refl
 
 -- with the refused sheet's own trace
 step_is : totals_of (two ++ (sheet_trace silent bad_sheet ∷ [])) ≡ expected
-unfolding one_if retried_in square_sum accepted_count refused_count retried_total square_total peak_total largest peak_of frame_trace call_outcome first_met first_outside first_close words silent state_of concealment_of core_of post_of
+unfolding one_if retried_in square_sum accepted_count refused_count retried_total square_total peak_total largest peak_of call_trace call_outcome first_met first_outside first_close words silent state_of concealment_of core_of post_of
 step_is = refl
 
 alone_is : report_output zero_record ≡ codes "0 0 0 0 none\n"
@@ -50,7 +50,7 @@ none_refused = refl
 
 -- of the two calls the first was accepted
 one_accepted : accepted_count (run_calls silent calls) ≡ 1
-unfolding accepted_count run_calls one_if frame_trace call_outcome first_met
+unfolding accepted_count run_calls one_if call_trace call_outcome first_met
 one_accepted = ap (λ (e : Seen). one_if e.accepted + 0) example.call
 
 -- what is not read may be cut off

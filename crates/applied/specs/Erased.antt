@@ -86,6 +86,10 @@ pub record ErasedValues : Type 0 where
   pub lost_fields : concealment_numbers lost_result.answer.frame.next.concealment ≡ pos 44 ∷ (replicate 14 (pos 0) ++ (pos 1 ∷ []))
   pub samples : lost_result.lent ≡ replicate 160 (pos 0)
   pub energies : lost_result.answer.gain_decoder.energies ≡ replicate 4 (minus 8192)
+  -- of energies whose sums clamp
+  pub clamped_energies :
+      (prepared erased_kind (pos 20000 ∷ pos 20000 ∷ minus 20000 ∷ minus 20000 ∷ []) (erased_sheet (pos 0)) silent).energies
+      ≡ pos 7393 ∷ pos 8191 ∷ pos 3191 ∷ minus 1809 ∷ []
   -- after the good frame: the last lag; two fives, whose pitch gains are held to 16384; past gains; last good gains, which are not; the mark
   pub good_fields :
       concealment_numbers good.concealment

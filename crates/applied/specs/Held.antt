@@ -10,7 +10,8 @@ use Rattle.state.specs.declared.State.{State}
 use Rattle.state.specs.Layout.{concealment_numbers, state_of}
 use Rattle.kinds.specs.Kind.{frame_kind, index_kind, erased_kind, call_outcome}
 use Rattle.kinds.specs.Prepass.{prepared}
-use Rattle.mr74.specs.Indexed.{decoded_sheet}
+use Rattle.mr74.specs.Frame.{call_trace}
+use Rattle.mr74.specs.Indexed.{decoded_sheet, without_energies}
 use Rattle.calls.specs.Calls.{Call, trace_of, next_state, accepted}
 use Rattle.applied.specs.Examples.{frame_sheet_call, erased_sheet_call, silent, lag}
 use Rattle.applied.specs.Gains.{log_table, pow_table}
@@ -101,6 +102,10 @@ pub record HeldIndex : Type 0 where
       ∷ record { lag = lag 25 (pos 1); pitch = pos 1000; code = pos 1802 }
       ∷ record { lag = lag 27 (minus 1); pitch = pos 1000; code = pos 1802 }
       ∷ []
+  -- IndexIsFrame: the frame call of the sheet with these gains, which holds them again
+  pub frame_accepted : call_outcome frame_kind lowered_sheet lowered 160 ≡ Ok tt
+  pub trace :
+      without_energies (call_trace (index_kind log_table pow_table) opening_energies index_sheet lowered out) ≡ call_trace frame_kind [] lowered_sheet lowered out
   -- the energies are those of the indices
   pub energies : (prepared (index_kind log_table pow_table) opening_energies index_sheet lowered).energies ≡ pos 9221 ∷ pos 7413 ∷ pos 12853 ∷ pos 5816 ∷ []
 

@@ -14,7 +14,7 @@ use Rattle.state.specs.declared.State.{State}
 use Rattle.state.specs.State.{WellFormed, state_outcome}
 use Rattle.kinds.specs.declared.GainMemory.{GainMemory}
 use Rattle.kinds.specs.Kind.{Kind, frame_kind, index_kind, erased_kind, call_outcome}
-use Rattle.kinds.specs.Prepass.{prepared}
+use Rattle.kinds.specs.Prepass.{opened_memory, prepared}
 use Rattle.mr74.specs.Frame.{EnergiesResult, Trace, frame_call, index_call, erased_call}
 use Rattle.calls.specs.Calls.{trace_of, next_state}
 use Rattle.applied.specs.Examples.{index_sheet_call, erased_sheet_call, silent, loud, call}
@@ -122,6 +122,7 @@ abbrev pub sharpenings_of : Trace → List ℤ
 sharpenings_of t = map (λ (u : SubframeResult). u.next.sharpening.0) t.subframes
 
 pub record SharpeningApplied : Type 0 where
+  pub opened : (energies : List ℤ) (s : State) → (opened_memory energies s).sharpening.0 ≡ s.core.sharpening.0
   pub frame : sharpenings_of (trace_of after_missed changing) ≡ pos 8000 ∷ pos 7000 ∷ pos 7000 ∷ pos 7000 ∷ []
   pub index : sharpenings_of (trace_of silent tabled_call) ≡ pos 13017 ∷ pos 10300 ∷ pos 13017 ∷ pos 13017 ∷ []
   pub held : sharpenings_of (trace_of lowered tabled_call) ≡ pos 1000 ∷ pos 1000 ∷ pos 1000 ∷ pos 1000 ∷ []

@@ -1,4 +1,4 @@
--- The starred values (docs/BENCH.md, "Values to hold"), as one statement over one list, about the definitions. The theorem is `starred_hold` in
+-- The starred values of docs/BENCH.md, "Values to hold", as one statement over one list, about the definitions. The theorem is `starred_hold` in
 -- proofs/Starred.antt; `starred_applied` takes some of them out again.
 use Rattle.std.specs.Prelude.{◌≡◌, List, [], ◌∷◌, ℤ, pos, replicate}
 use Rattle.lists.specs.Lists.{minus}
@@ -9,14 +9,14 @@ use Rattle.energy.specs.Energy.{energy}
 use Rattle.energy.specs.Root.{inverse_root}
 use Rattle.synthesis.specs.Synthesis.{overflowed_at}
 
--- what the definition gives, and what docs/BENCH.md has
+-- what the definition gives, and what is to be held
 pub record Value : Type 0 where
   pub given : ℤ
-  pub paper : ℤ
+  pub wanted : ℤ
 
 infix 5 ◌is◌
 abbrev pub ◌is◌ : ℤ → ℤ → Value
-g is p = record { given = g; paper = p }
+g is w = record { given = g; wanted = w }
 
 -- synthesis with zero history and the row 4096, -4096, zeros: the first sample at which a step clamps, 40 where none does
 abbrev pub first_clamp : List ℤ → ℤ
@@ -45,10 +45,10 @@ starred =
     ∷ (first_clamp (pos 32767 ∷ pos 1 ∷ replicate 38 (pos 0)) is pos 1)
     ∷ []
 
--- every value of a list is the paper's
+-- every value of a list is the one to be held
 abbrev pub Hold : List Value → Type 0
 Hold [] = Unit
-Hold (v ∷ vs) = (v.given ≡ v.paper) × Hold vs
+Hold (v ∷ vs) = (v.given ≡ v.wanted) × Hold vs
 
 -- ---- the first, the last and two between them as equations of their own
 pub record StarredApplied : Type 0 where
