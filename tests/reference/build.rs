@@ -378,7 +378,11 @@ fn read(path: &Path) -> String {
     println!("cargo::rerun-if-changed={}", path.display());
     match fs::read_to_string(path) {
         Ok(text) => text,
-        Err(error) => fail(format!("cannot read {}: {error}", path.display())),
+        Err(error) => fail(format!(
+            "cannot read {}: {error}; the Rust is chrismoos/136-bts at commit 7c60b63bf4, in \
+             {SOURCE} or in the checkout that REFERENCE_SRC names",
+            path.display()
+        )),
     }
 }
 

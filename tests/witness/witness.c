@@ -1,7 +1,7 @@
-/* An outside witness: the stages that libopencore-amrnb.a exposes, run on the recorded answers of tests/vectors, which are this decoder's too
+/* An outside witness: the stages that libopencore-amrnb.a exposes, run on the recorded answers of crates/replay/data, which are this decoder's too
    (crates/replay). For each file: records, how many agree, and how many of those that differ lie inside the ranges in which the library keeps
    the standard's clamps. Not part of the gate. Build where Debian's libopencore-amrnb-dev is installed:
-       gcc -std=c11 -O2 -Wall -Wextra tests/witness/witness.c -l:libopencore-amrnb.a -lstdc++ -lm -o target/witness && target/witness tests/vectors */
+       gcc -std=c11 -O2 -Wall -Wextra tests/witness/witness.c -l:libopencore-amrnb.a -lstdc++ -lm -o target/witness && target/witness crates/replay/data */
 #include <stdint.h>
 #include <stdio.h>
 #include <stdlib.h>
@@ -21,6 +21,15 @@ extern Word32 Inv_sqrt(Word32 x, Flag *overflow);
 extern void agc2(Word16 *in, Word16 *out, Word16 count, Flag *overflow);
 extern void agc(Word16 *gain, Word16 *in, Word16 *out, Word16 factor, Word16 count, Flag *overflow);
 extern void Syn_filt(Word16 a[], Word16 x[], Word16 y[], Word16 count, Word16 memory[], Word16 update);
+
+/* past energies, newest first, of the modes up to 10.2 kbit/s and of 12.2 */
+struct gc_pred_state {
+    Word16 energies[4], energies_122[4];
+};
+extern const Word16 log2_tbl[33], pow2_tbl[33];
+extern void Log2(Word32 x, Word16 *exponent, Word16 *fraction, Flag *overflow);
+extern void get_const_tbls(void *tables);
+extern void Dec_gain(struct gc_pred_state *state, int mode, Word16 index, Word16 code[], Word16 even, Word16 *pitch, Word16 *gain, void *tables, Flag *overflow);
 
 static Word32 wide(const Word16 *w) { return (Word32)((uint32_t)(uint16_t)w[0] | (uint32_t)(uint16_t)w[1] << 16); }
 
@@ -199,6 +208,55 @@ static int synthesis(const Word16 *r, int *inside)
     return same(y, r + 61, 40) && same(memory, r + 102, 10);
 }
 
+static int same_logarithm(Word32 a, Word32 b)
+{
+    Word16 exponent[2], fraction[2];
+    Flag o = 0;
+    Log2(a, &exponent[0], &fraction[0], &o);
+    Log2(b, &exponent[1], &fraction[1], &o);
+    return exponent[0] == exponent[1] && fraction[0] == fraction[1];
+}
+
+/* an index's gains and the energies after it: Dec_gain of MR74, with the table of gains, gc_pred by Log2, and Pow2 */
+static void decode(const Word16 *r, Word16 *pitch, Word16 *gain, Word16 *energies)
+{
+    static void *tables[64]; /* the library's own structure of pointers, which has fewer */
+    struct gc_pred_state state;
+    Word16 code[40];
+    Flag o = 0;
+    get_const_tbls(tables);
+    memset(&state, 0, sizeof state);
+    memcpy(state.energies, r + 107, 8);
+    memcpy(code, r + 1, 80);
+    Dec_gain(&state, 4, r[0], code, 0, pitch, gain, tables, &o);
+    memcpy(energies, state.energies, 8);
+}
+
+/* what comes from the row of the index alone: the pitch gain, and the energies after it */
+static int row(const Word16 *r, int *inside)
+{
+    Word16 pitch, gain, energies[4];
+    (void)inside;
+    decode(r, &pitch, &gain, energies);
+    return pitch == r[111] && same(energies, r + 113, 4);
+}
+
+static int gains(const Word16 *r, int *inside)
+{
+    Word16 pitch, gain, energies[4];
+    int64_t energy = 0, shortened = 0;
+    for (int i = 1; i <= 40; i++) {
+        energy += 2 * (int64_t)r[i] * r[i];
+        shortened += (int64_t)r[i] * r[i] >> 3 << 4;
+    }
+    if (energy > INT32_MAX || !same_logarithm((Word32)energy, (Word32)shortened))
+        *inside = 0; /* it sums the squares without their low three bits, and wraps: where either shows in Log2 */
+    if (!same(r + 41, log2_tbl, 33) || !same(r + 74, pow2_tbl, 33))
+        *inside = 0; /* its tables are the standard's, and the record's are others */
+    decode(r, &pitch, &gain, energies);
+    return pitch == r[111] && gain == r[112] && same(energies, r + 113, 4);
+}
+
 static void run(const char *folder, const char *name, int words, int (*stage)(const Word16 *, int *))
 {
     char path[512];
@@ -226,7 +284,7 @@ static void run(const char *folder, const char *name, int words, int (*stage)(co
 
 int main(int argc, char **argv)
 {
-    const char *folder = argc > 1 ? argv[1] : "tests/vectors";
+    const char *folder = argc > 1 ? argv[1] : "crates/replay/data";
     run(folder, "lsp.bin", 20, lsp);
     run(folder, "convert.bin", 21, convert);
     run(folder, "interpolate.bin", 64, interpolate);
@@ -237,5 +295,7 @@ int main(int argc, char **argv)
     run(folder, "match_energy.bin", 120, match_energy);
     run(folder, "gain_control.bin", 122, gain_control);
     run(folder, "synthesis.bin", 112, synthesis);
+    run(folder, "gain_decode.bin", 117, row);
+    run(folder, "gain_decode.bin", 117, gains);
     return 0;
 }

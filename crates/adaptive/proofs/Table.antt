@@ -1,6 +1,6 @@
 -- The interpolation table: its length, and its rule by one test of every entry that antt computes.
 use Rattle.std.proofs.Common.{◌≡◌, refl, Bool, not, ◌&&◌, ◌||◌, ℕ, ◌%◌, ◌<◌, ◌≤◌, eq-eqb, T, leb, eqb, leb→le, arith, ℤ, pos, negsuc, nat_abs, length, w16, SFits}
-use borrow.Author.Tests.{lt-leb}
+use Rattle.std.proofs.lemmas.Bool.{lt-leb}
 use Rattle.lists.specs.Lists.{at, eq_z}
 use Rattle.lists.proofs.Table.{both_pass, at_each, eq_z→eq}
 use Rattle.adaptive.specs.Predict.{inter6}

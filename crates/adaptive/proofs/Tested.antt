@@ -1,11 +1,10 @@
 -- Numbers that are not large, and the test of a list that grows.
 use Rattle.std.proofs.Common.{◌≡◌, refl, sym, ap, ◌∙◌, Bool, true, false, not, ◌&&◌, List, [], ◌∷◌, ℕ, zero, suc, ◌-◌, ◌<◌, ◌≤◌, arith, ℤ, pos, negsuc, nat_abs, length, set, take, take-suc-set, get_or-take, ◌≤ℤ◌}
 use mathlib.Core.List.{foldl, foldl-append}
-use borrow.Author.Tests.{not-true}
-use lib.Signed.{lt_z}
+use Rattle.std.proofs.lemmas.Bool.{not-true, and_parts, or_parts}
+use Rattle.std.specs.Int.Signed.{lt_z}
 use Rattle.lists.specs.Lists.{minus, at}
 use Rattle.basicop.proofs.Ints.{arith_ℤ}
-use Rattle.std.proofs.lemmas.Bool.{and_parts, or_parts}
 use Rattle.basicop.proofs.Tests.{less_no}
 use Rattle.adaptive.specs.Inner.{limit, large, quiet, Quiet}
 

@@ -58,7 +58,7 @@ fn extended(history: [i16; 154], lag: PitchLag) -> [i16; 194]
     buffer
 }
 
-// The forty samples. The caller shows that the lag lies in 19..=144, as every lag does: `absolute_lawful` and `relative_lawful` of pitch.
+/// The forty samples. The caller shows that the lag lies in 19..=144, as every lag does: `absolute_lawful` and `relative_lawful` of pitch.
 pub fn predict(history: [i16; 154], lag: PitchLag) -> [i16; 40]
     requires { (19 ≤ lag.samples) × (lag.samples ≤ 144) }
     ensures { result ≡ predicted history (lag_of lag) }

@@ -15,7 +15,7 @@ const COEFFICIENTS: [i16; 61] = [
     -120, -163, -165, -132, -79, -19, 34, 73, 91, 89, 70, 38, 0,
 ];
 
-// The fraction negated, in sixths, and 6 more where that is below 0.
+/// The fraction negated, in sixths, and 6 more where that is below 0.
 pub fn phase_of(lag: PitchLag) -> usize
     ensures value { pos result ≡ phase (lag_of lag) }
     ensures range { result ≤ 4 }
@@ -27,7 +27,7 @@ pub fn phase_of(lag: PitchLag) -> usize
     }
 }
 
-// The place of the first sample to the left: one earlier where 6 was added.
+/// The place of the first sample to the left: one earlier where 6 was added.
 pub fn start_of(lag: PitchLag) -> usize
     requires { lag.samples ≤ 144 }
     ensures { pos result ≡ start (lag_of lag) }
@@ -59,7 +59,7 @@ fn phase_taps(phase: usize) -> [i16; 20]
     array::from_fn(|j| tap(phase, j))
 }
 
-// Those of the phases 0, 2 and 4: constants, which the compiler works out.
+/// Those of the phases 0, 2 and 4: constants, which the compiler works out.
 pub fn all_taps() -> [[i16; 20]; 3]
     ensures { result ≡ all_taps }
 {

@@ -1,6 +1,8 @@
--- `read_back`, `same_outcome` and `same_rest` at concrete records: the reader stays shut, and its premises are computed from the state or from the bytes.
-use Rattle.std.proofs.Common.{◌≡◌, refl, sym, ap, ◌∙◌, true, List, [], ◌++◌, ℕ, ℤ, pos}
-use Rattle.lists.specs.Lists.{minus}
+-- `read_back`, `same_outcome`, `same_rest`, `record_back` and `read_formed` at concrete records: the reader stays shut, and its premises are computed from
+-- the state or from the bytes; and `in_range` and its converse at states of any sharpening, gains, lag and mark.
+use Rattle.std.proofs.Common.{◌≡◌, refl, sym, ap, ◌∙◌, true, List, [], ◌∷◌, ◌++◌, ℕ, zero, suc, ℤ, pos, take, replicate, ◌≤ℤ◌}
+use lib.Signed.{le_z_yes}
+use Rattle.lists.specs.Lists.{minus, Every}
 use Rattle.basicop.specs.Words.{Words}
 use Rattle.std.specs.Prelude.{Ok, Err}
 use Rattle.outcome.specs.declared.Refusal.TheVariants.{Sharpening, SmoothedGain, GainField, LastLag}
@@ -8,14 +10,16 @@ use Rattle.outcome.specs.Outcome.{is_accepted}
 use Rattle.outcome.specs.Checks.{first_met, first_outside}
 use Rattle.state.specs.declared.State.{State}
 use Rattle.state.specs.State.{WellFormed, state_outcome}
+use Rattle.state.proofs.Checks.{in_range, in_range_accepted}
 use Rattle.state.specs.Layout.{core_numbers, core_of, post_numbers, post_of, concealment_numbers, concealment_of, numbers_of, state_of}
 use Rattle.coding.specs.Body.{missing}
 use Rattle.coding.specs.Bytes.{bytes_of, Bytes}
-use Rattle.record.specs.Record.{ReadResult, first, trailer_bytes, read_result, version_of, read_call, encoded}
-use Rattle.record.proofs.Handover.{read_back, same_outcome, first_read, first_outcome, same_rest}
+use Rattle.record.specs.Record.{ReadResult, first, versions, trailer_of, trailer_bytes, read_result, version_of, read_call, encoded}
+use Rattle.record.specs.Handover.{rest_by}
+use Rattle.record.proofs.Handover.{read_back, same_outcome, first_read, first_outcome, same_rest, record_back, written_back, read_formed}
 use Rattle.calls.specs.Calls.{state_after}
 use Rattle.applied.specs.Examples.{silent, calls}
-use Rattle.applied.specs.Handover.{silent_record, note, Read, ReadApplied, signal_with, state_with, losing_numbers, state_losing, TurnedBack, first_record, FirstApplied, RestApplied}
+use Rattle.applied.specs.Handover.{silent_record, note, Read, ReadApplied, signal_with, state_with, losing_numbers, state_losing, TurnedBack, first_record, FirstApplied, RestApplied, BackApplied, AcceptedApplied}
 use Rattle.applied.specs.Listing.{zero_record}
 use Rattle.applied.proofs.Concrete.{all_fit, words_by, numbers_well_formed, bytes_by}
 use Rattle.applied.proofs.Examples.{example}
@@ -147,3 +151,81 @@ rest_applied =
     (ap is_accepted bare.outcome)
     versions_same
     (noted.state ∙ sym bare.state)
+
+-- ---- record_back, written_back, read_formed
+first_bytes : Bytes (note ++ zero_record)
+first_bytes = bytes_by (note ++ zero_record) refl
+
+as_written : version_of (note ++ silent_record) ≡ 2
+unfolding silent_record
+as_written = refl
+
+as_one : version_of (note ++ zero_record) ≡ 1
+as_one = refl
+
+first_trailer : trailer_bytes first ≡ 0x4D ∷ 0x37 ∷ 1 ∷ 0 ∷ 0x8A ∷ 1 ∷ 0xC5 ∷ 0 ∷ []
+unfolding bytes_of
+first_trailer = refl
+
+pub back_applied : BackApplied
+back_applied =
+    let y = ap is_accepted (first_of note).outcome in
+    let f = read_formed (note ++ zero_record) first_bytes y in
+    let r = read_call (note ++ zero_record) in
+    record {
+      written = written_back (note ++ silent_record) noted_bytes (ap is_accepted noted.outcome) as_written;
+      first =
+          ap (λ (t : List ℕ). r.note ++ (bytes_of (take 197 (numbers_of r.answer.state)) ++ t)) (sym first_trailer)
+          ∙ ap (λ (v : ℕ). r.note ++ rest_by (trailer_of v versions) r.answer.state) (sym as_one)
+          ∙ record_back (note ++ zero_record) first_bytes y;
+      formed = f.0;
+      accepted = f.1;
+    }
+
+-- ---- in_range, in_range_accepted
+-- what is 0 everywhere else
+zeros_from : (n : ℕ) → Every (λ (g : ℤ). pos 0 ≤ℤ g) (replicate n (pos 0))
+zeros_from zero = tt
+zeros_from (suc n) = (le_z_yes tt, zeros_from n)
+
+pub accepted_applied : AcceptedApplied
+unfolding state_with state_losing state_of core_of post_of concealment_of state_outcome
+accepted_applied =
+    record {
+      signal = λ x g h. let k = in_range (state_with x g) h in (k.from, (k.to, k.gain));
+      signal_so = λ x g p q r. in_range_accepted (state_with x g) (record {
+        from = p;
+        to = q;
+        gain = r;
+        concealment = record {
+          gains = record {
+            pitch_history = zeros_from 5;
+            code_history = zeros_from 5;
+            past = record { pitch = le_z_yes tt; code = le_z_yes tt };
+            last_good = record { pitch = le_z_yes tt; code = le_z_yes tt };
+          };
+          mark = (le_z_yes tt, le_z_yes tt);
+          from = le_z_yes tt;
+          to = le_z_yes tt;
+        };
+      });
+      losing = λ lag p c m h.
+          let k = (in_range (state_losing lag p c m) h).concealment in
+          (k.from, (k.to, (k.gains.last_good.pitch, (k.gains.last_good.code, k.mark))));
+      losing_so = λ lag p c m a b d e f g. in_range_accepted (state_losing lag p c m) (record {
+        from = le_z_yes tt;
+        to = le_z_yes tt;
+        gain = le_z_yes tt;
+        concealment = record {
+          gains = record {
+            pitch_history = zeros_from 5;
+            code_history = zeros_from 5;
+            past = record { pitch = le_z_yes tt; code = le_z_yes tt };
+            last_good = record { pitch = d; code = e };
+          };
+          mark = (f, g);
+          from = a;
+          to = b;
+        };
+      });
+    }

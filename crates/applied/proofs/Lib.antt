@@ -10,6 +10,7 @@ pub mod Erased
 pub mod Divisions
 pub mod Calls
 pub mod Handover
+pub mod Records
 pub mod Synthesis
 pub mod Postfilter
 pub mod Capi

@@ -1,5 +1,5 @@
--- Document 01's listing, computed from the definitions of the whole outputs; and what the bench program's steps print of it, by `steps_output`.
-use Rattle.std.proofs.Common.{◌≡◌, refl, ◌∙◌, List, [], ◌++◌, ℕ, lit≤, length, replicate}
+-- The listing, computed from the definitions of the whole outputs; and what the bench program's steps print of it, by `steps_output`.
+use Rattle.std.proofs.Common.{◌≡◌, refl, ◌∙◌, List, [], ◌++◌, ℕ, lit≤, length, replicate, codes}
 use mathlib.Core.List.{flat_map}
 use Rattle.lists.specs.Lists.{one_if, iter, tab}
 use Rattle.basicop.specs.Ops.{clamp, asr, wrap, add, sub, mult, shl, l_add, l_sub, l_mult, l_shl, l_shr_r, l_deposit_h, doublings, norm_l, div_s, l_extract, mpy_32_16}
@@ -30,7 +30,7 @@ use Rattle.mr74.specs.Checks.{call_outcome}
 use Rattle.mr74.specs.Frame.{frame_trace}
 use Rattle.coding.specs.Bytes.{words, bytes_of}
 use Rattle.record.specs.Record.{read_call, record_outcome}
-use Rattle.lines.specs.Lines.{spelled, decimal, integer, largest, peak_of, any_of, mark_of, frame_line, refused_line, cut_line, state_line}
+use Rattle.lines.specs.Lines.{spelled, decimal, largest, peak_of, any_of, mark_of, frame_line, refused_line, cut_line, state_line}
 use Rattle.mr74.specs.Frame.{frame_call}
 use Rattle.sheets.specs.Sheets.{sheets_of, sheet_call}
 use Rattle.bench_output.specs.Output.{answer_line, sheet_lines, bench_output}
@@ -39,24 +39,24 @@ use Rattle.shift_report.specs.Totals.{retried_in, square_sum, accepted_count, re
 use Rattle.shift_report.specs.Report.{whole_sheets, sheet_traces, mean_of, mean_field, report_line, report_output}
 use Rattle.bench_output.proofs.Steps.{steps_output}
 use Rattle.applied.specs.Examples.{loud}
-use Rattle.applied.specs.Listing.{ascii, input, output, gap_input, gap_output, Listing, StepsApplied}
+use Rattle.applied.specs.Listing.{input, output, gap_input, gap_output, Listing, StepsApplied}
 
--- ---- computed: the sheets of document 01 are refused, so that nothing is decoded
+-- ---- computed: the sheets of the listing are refused, so that nothing is decoded
 bench_lines : bench_output input ≡ output
-unfolding first_met first_outside first_close call_outcome frame_trace frame_call state_of concealment_of core_of post_of state_outcome words read_call record_outcome spelled decimal refused_line cut_line sheets_of sheet_call answer_line sheet_lines bench_output ascii input
+unfolding first_met first_outside first_close call_outcome frame_trace frame_call state_of concealment_of core_of post_of state_outcome words read_call record_outcome spelled decimal refused_line cut_line sheets_of sheet_call answer_line sheet_lines bench_output input
 bench_lines = refl
 
-report_line_lem : report_output input ≡ ascii "0 2 0 0 none\n"
-unfolding first_met first_outside first_close call_outcome frame_trace state_of concealment_of core_of post_of state_outcome words read_call record_outcome spelled decimal sheets_of ascii input one_if run_calls accepted_count refused_count retried_total square_total peak_total whole_sheets sheet_traces mean_field report_line report_output
+report_line_lem : report_output input ≡ codes "0 2 0 0 none\n"
+unfolding first_met first_outside first_close call_outcome frame_trace state_of concealment_of core_of post_of state_outcome words read_call record_outcome spelled decimal sheets_of input one_if run_calls accepted_count refused_count retried_total square_total peak_total whole_sheets sheet_traces mean_field report_line report_output
 report_line_lem = refl
 
 -- one of the others is decoded
 gap_lines : bench_output gap_input ≡ gap_output
-unfolding flat_map iter tab clamp asr wrap add sub mult shl l_add l_sub l_mult l_shl l_shr_r l_deposit_h doublings norm_l div_s l_extract mpy_32_16 absolute lag_min relative cosine between lsp_of raised_at polynomial row_of rows_of inter6 phase start interpolated extended predicted sharpened sharpening feedback squares energy energy_gain agc2 inverse_table root_scaled inverse_root outside recursion step_numbers some_outside some_list_outside first_list_outside acc accs enhanced first_excitation synthesis_result excitations subframe_result subframe_results core_result first_met state_of concealment_of core_of post_of first_outside first_close call_outcome frame_trace numerator denominator weighted residual_sum residual tilts.impulse tilts.correlation tilts.tilt_of tilts.tilt preemphasised filter_result postfilter_result agc controlled words read_call record_outcome spelled decimal integer largest peak_of any_of mark_of frame_line refused_line cut_line frame_call sheets_of sheet_call answer_line sheet_lines bench_output ascii input gap_input loud bytes_of state_outcome one_if run_calls retried_in square_sum accepted_count refused_count retried_total square_total peak_total whole_sheets sheet_traces mean_of mean_field report_line report_output frame_prepared good_gains
+unfolding flat_map iter tab clamp asr wrap add sub mult shl l_add l_sub l_mult l_shl l_shr_r l_deposit_h doublings norm_l div_s l_extract mpy_32_16 absolute lag_min relative cosine between lsp_of raised_at polynomial row_of rows_of inter6 phase start interpolated extended predicted sharpened sharpening feedback squares energy energy_gain agc2 inverse_table root_scaled inverse_root outside recursion step_numbers some_outside some_list_outside first_list_outside acc accs enhanced first_excitation synthesis_result excitations subframe_result subframe_results core_result first_met state_of concealment_of core_of post_of first_outside first_close call_outcome frame_trace numerator denominator weighted residual_sum residual tilts.impulse tilts.correlation tilts.tilt_of tilts.tilt preemphasised filter_result postfilter_result agc controlled words read_call record_outcome spelled decimal largest peak_of any_of mark_of frame_line refused_line cut_line frame_call sheets_of sheet_call answer_line sheet_lines bench_output input gap_input loud bytes_of state_outcome one_if run_calls retried_in square_sum accepted_count refused_count retried_total square_total peak_total whole_sheets sheet_traces mean_of mean_field report_line report_output frame_prepared good_gains
 gap_lines = refl
 
-gap_report : report_output gap_input ≡ ascii "1 5 0 0 0\n"
-unfolding flat_map iter tab clamp asr wrap add sub mult shl l_add l_sub l_mult l_shl l_shr_r l_deposit_h doublings norm_l div_s l_extract mpy_32_16 absolute lag_min relative cosine between lsp_of raised_at polynomial row_of rows_of inter6 phase start interpolated extended predicted sharpened sharpening feedback squares energy energy_gain agc2 inverse_table root_scaled inverse_root outside recursion step_numbers some_outside some_list_outside first_list_outside acc accs enhanced first_excitation synthesis_result excitations subframe_result subframe_results core_result first_met state_of concealment_of core_of post_of first_outside first_close call_outcome frame_trace numerator denominator weighted residual_sum residual tilts.impulse tilts.correlation tilts.tilt_of tilts.tilt preemphasised filter_result postfilter_result agc controlled words read_call record_outcome spelled decimal integer largest peak_of any_of mark_of frame_line refused_line cut_line frame_call sheets_of sheet_call answer_line sheet_lines bench_output ascii input gap_input loud bytes_of state_outcome one_if run_calls retried_in square_sum accepted_count refused_count retried_total square_total peak_total whole_sheets sheet_traces mean_of mean_field report_line report_output frame_prepared good_gains
+gap_report : report_output gap_input ≡ codes "1 5 0 0 0\n"
+unfolding flat_map iter tab clamp asr wrap add sub mult shl l_add l_sub l_mult l_shl l_shr_r l_deposit_h doublings norm_l div_s l_extract mpy_32_16 absolute lag_min relative cosine between lsp_of raised_at polynomial row_of rows_of inter6 phase start interpolated extended predicted sharpened sharpening feedback squares energy energy_gain agc2 inverse_table root_scaled inverse_root outside recursion step_numbers some_outside some_list_outside first_list_outside acc accs enhanced first_excitation synthesis_result excitations subframe_result subframe_results core_result first_met state_of concealment_of core_of post_of first_outside first_close call_outcome frame_trace numerator denominator weighted residual_sum residual tilts.impulse tilts.correlation tilts.tilt_of tilts.tilt preemphasised filter_result postfilter_result agc controlled words read_call record_outcome spelled decimal largest peak_of any_of mark_of frame_line refused_line cut_line frame_call sheets_of sheet_call answer_line sheet_lines bench_output input gap_input loud bytes_of state_outcome one_if run_calls retried_in square_sum accepted_count refused_count retried_total square_total peak_total whole_sheets sheet_traces mean_of mean_field report_line report_output frame_prepared good_gains
 gap_report = refl
 
 pub listing : Listing
@@ -74,12 +74,12 @@ gap_length = refl
 abbrev zeros : List ℕ
 zeros = replicate 402 0 ++ replicate 364 0
 
-zeros_refused : bench_output zeros ≡ ascii "state refused 12\n"
-unfolding bench_output read_call record_outcome first_met state_line decimal spelled ascii
+zeros_refused : bench_output zeros ≡ codes "state refused 12\n"
+unfolding bench_output read_call record_outcome first_met state_line decimal spelled
 zeros_refused = refl
 
-none_refused : bench_output [] ≡ ascii "state refused 11\n"
-unfolding bench_output read_call record_outcome first_met state_line decimal spelled ascii
+none_refused : bench_output [] ≡ codes "state refused 11\n"
+unfolding bench_output read_call record_outcome first_met state_line decimal spelled
 none_refused = refl
 
 pub steps_applied : StepsApplied

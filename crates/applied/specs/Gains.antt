@@ -1,13 +1,19 @@
--- The call of a gain index, computed with the standard's tables, which are a caller's; and the theorems of gain_table/specs/Ranges.antt, gain/specs/Checks.antt
--- and gain/specs/Call.antt applied. The theorems are `gain_values` and `gains_applied` in proofs/Gains.antt.
-use Rattle.std.specs.Prelude.{◌≡◌, true, List, [], ◌∷◌, ◌++◌, ℕ, ◌-◌, ℤ, pos, length, replicate, set, ◌≤ℤ◌}
+-- The call of a gain index, computed with the standard's tables, which are a caller's; the energies of erased frames, computed; and the theorems of
+-- gain_table, gain and gain_concealment applied. The theorems are `gain_values`, `quiet_energies`, `gains_applied` and `kept_applied` in proofs/Gains.antt.
+use mathlib.Core.List.{Perm}
+use Rattle.std.specs.Prelude.{◌≡◌, Bool, true, List, [], ◌∷◌, ◌++◌, ℕ, ◌-◌, ℤ, pos, length, replicate, set, ◌≤ℤ◌}
 use Rattle.lists.specs.Lists.{minus, at}
 use Rattle.outcome.specs.Outcome.{number_of, place_of, is_accepted}
 use Rattle.outcome.specs.Checks.{first_met}
 use Rattle.gain_table.specs.Rows.{gain_row}
 use Rattle.gain.specs.declared.GainAnswer.{GainAnswer}
 use Rattle.gain.specs.Checks.{is_table, table_checks}
+use Rattle.gain.specs.Gain.{concealed_energies}
 use Rattle.gain.specs.Call.{opening_energies, gain_call}
+use Rattle.basicop.specs.declared.Gains.{Gains}
+use Rattle.gain_concealment.specs.declared.GainConcealment.{GainConcealment}
+use Rattle.gain_concealment.specs.Median.{sorted}
+use Rattle.gain_concealment.specs.Concealment.{concealed_gains, good_gains}
 use Rattle.applied.specs.Refusals.{Refusal, refused}
 
 -- ---- as TS 26.073 prints them: table[33] of log2.tab and of pow2.tab
@@ -33,7 +39,7 @@ abbrev pub gain_seen : ℤ → ℤ → List ℤ → GainSeen
 gain_seen pitch code energies = record { pitch = pitch; code = code; energies = energies }
 
 abbrev pub seen_in : GainAnswer → GainSeen
-seen_in a = gain_seen a.gains.pitch.0 a.gains.code.0 a.gains.next.energies
+seen_in a = gain_seen a.gains.pitch.0 a.gains.code.0 a.gain_decoder.energies
 
 -- an innovation that begins with these numbers, and is 0 after them
 abbrev pub beginning : List ℤ → List ℤ
@@ -106,22 +112,52 @@ refused_gains =
 abbrev pub RefusedGains : Type 0
 RefusedGains = refused_gains ≡ refused 7 0 ∷ refused 7 0 ∷ refused 7 1 ∷ refused 7 1 ∷ refused 7 0 ∷ refused 8 0 ∷ refused 8 0 ∷ refused 0 0 ∷ []
 
+-- ---- the energies of erased frames: four subframes in a row. The sums clamp at each energy, the newest's first
+abbrev pub QuietEnergies : Type 0
+QuietEnergies =
+    concealed_energies (concealed_energies (concealed_energies (concealed_energies (pos 20000 ∷ pos 20000 ∷ minus 20000 ∷ minus 20000 ∷ []))))
+    ≡ pos 7393 ∷ pos 8191 ∷ pos 3191 ∷ minus 1809 ∷ []
+
 pub record GainsApplied : Type 0 where
-  -- NeverNegative: of any innovation and any energies; of any tables that the checks accept
-  pub code : (innovation energies : List ℤ) → pos 0 ≤ℤ (gain_call log_table pow_table (pos 40) innovation energies).gains.code.0
-  -- RowRanges, of the first row and of the last
+  -- that no code gain is negative: of any index, accepted or not, and any innovation and energies
+  pub code : (index : ℤ) (innovation energies : List ℤ) → pos 0 ≤ℤ (gain_call log_table pow_table index innovation energies).gains.code.0
+  -- and of any tables
+  pub any_tables : (logs pows : List ℤ) → pos 0 ≤ℤ (gain_call logs pows (pos 40) quiet opening_energies).gains.code.0
+  -- the ranges of the first row and of the last
   pub pitch : (pos 577 ≤ℤ at (gain_row (pos 0)) 0) × (at (gain_row (pos 127)) 0 ≤ℤ pos 21318)
   pub correction : (pos 662 ≤ℤ at (gain_row (pos 0)) 1) × (at (gain_row (pos 127)) 1 ≤ℤ pos 32764)
   pub energy : (minus 16214 ≤ℤ at (gain_row (pos 0)) 2) × (at (gain_row (pos 127)) 2 ≤ℤ pos 18494)
   pub three : length (gain_row (pos 127)) ≡ 3
-  -- AcceptedTables: of tables that begin with these numbers
+  -- what accepted tables are: of tables that begin with these numbers
   pub tables :
       (x y z : ℤ) (logs pows : List ℤ)
       → is_accepted (first_met (table_checks (x ∷ logs) (y ∷ z ∷ pows))) ≡ true
       → (length logs ≡ 32) × (pos 0 ≤ℤ x) × (x ≤ℤ pos 32767) × (y ≤ℤ z)
-  -- KeptAccepted, of what AcceptedTables says of a table
+  -- and what is so is accepted
   pub kept : is_table log_table ≡ true
   -- a refused call gives no gains, and the energies as they came
   pub refused_code : (gain_call negative pow_table (pos 40) quiet opening_energies).gains.code.0 ≡ pos 0
   pub refused_pitch : (gain_call negative pow_table (pos 40) quiet opening_energies).gains.pitch.0 ≡ pos 0
-  pub refused_energies : (gain_call negative pow_table (pos 40) quiet opening_energies).gains.next.energies ≡ opening_energies
+  pub refused_energies : (gain_call negative pow_table (pos 40) quiet opening_energies).gain_decoder.energies ≡ opening_energies
+
+-- ---- gains of erased frames, and of good ones after them: no gain is negative, whatever the stage, the mark and the lengths of the fives
+abbrev pub pair : ℤ → ℤ → Gains
+pair pitch code = record { pitch = record { 0 = pitch }; code = record { 0 = code } }
+
+-- every gain one of these
+abbrev pub alike : ℤ → ℤ → GainConcealment
+alike pitch code = record { pitch_history = pitch ∷ []; code_history = code ∷ code ∷ []; past = pair pitch code; last_good = pair pitch code }
+
+pub record KeptApplied : Type 0 where
+  -- of numbers in order: they are the same, and they rise
+  pub same : (x y z : ℤ) → Perm (x ∷ y ∷ z ∷ []) (sorted (x ∷ y ∷ z ∷ []))
+  pub rises : (x y z : ℤ) → at (sorted (x ∷ y ∷ z ∷ [])) 1 ≤ℤ at (sorted (x ∷ y ∷ z ∷ [])) 2
+  -- of a subframe of an erased frame
+  pub concealed :
+      (stage pitch code : ℤ) → pos 0 ≤ℤ pitch → pos 0 ≤ℤ code
+      → (pos 0 ≤ℤ (concealed_gains stage (alike pitch code)).gains.pitch.0) × (pos 0 ≤ℤ (concealed_gains stage (alike pitch code)).next.past.code.0)
+  -- of a subframe of a good one
+  pub good :
+      (erased : Bool) (pitch code sent : ℤ) → pos 0 ≤ℤ pitch → pos 0 ≤ℤ code → pos 0 ≤ℤ sent
+      → (pos 0 ≤ℤ (good_gains erased (pair sent sent) (alike pitch code)).gains.code.0)
+      × (pos 0 ≤ℤ (good_gains erased (pair sent sent) (alike pitch code)).next.last_good.pitch.0)

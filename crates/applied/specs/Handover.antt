@@ -1,11 +1,13 @@
 -- The theorems of reader and writer together (record/specs/Handover.antt) applied to concrete records, their conclusions written out: of `read_back`
--- ReadApplied, of `same_outcome` TurnedBack, of `first_read` and `first_outcome` FirstApplied, of `same_rest` RestApplied. The theorems are in
--- proofs/Handover.antt.
-use Rattle.std.specs.Prelude.{◌≡◌, Ok, Err, List, [], ◌∷◌, ◌++◌, ℕ, ℤ, pos, length, drop, replicate}
+-- ReadApplied, of `same_outcome` TurnedBack, of `first_read` and `first_outcome` FirstApplied, of `same_rest` RestApplied, of `record_back`, `written_back` and
+-- `read_formed` BackApplied; and the states that are accepted (state/specs/State.antt, InRange): AcceptedApplied. The theorems are in proofs/Handover.antt.
+use Rattle.std.specs.Prelude.{◌≡◌, true, Ok, Err, List, [], ◌∷◌, ◌++◌, ℕ, ℤ, pos, length, take, drop, replicate, ◌≤ℤ◌}
 use Rattle.lists.specs.Lists.{minus}
 use Rattle.outcome.specs.declared.Refusal.TheVariants.{Sharpening, SmoothedGain, GainField, LastLag}
+use Rattle.outcome.specs.Outcome.{is_accepted}
 use Rattle.state.specs.declared.State.{State}
-use Rattle.state.specs.Layout.{state_of}
+use Rattle.state.specs.State.{WellFormed, state_outcome}
+use Rattle.state.specs.Layout.{numbers_of, state_of}
 use Rattle.coding.specs.Body.{missing}
 use Rattle.coding.specs.Bytes.{bytes_of}
 use Rattle.record.specs.Record.{read_call, encoded}
@@ -60,7 +62,7 @@ pub record TurnedBack : Type 0 where
   pub lag : (read_call (encoded (state_losing (pos 145) (pos 0) (pos 0) (pos 1)))).answer.outcome ≡ Err LastLag
   pub lost : (read_call (note ++ encoded (state_losing (pos 144) (pos 32767) (pos 32767) (pos 1)))).answer.outcome ≡ Ok tt
 
--- ---- a version 1 record (FirstRead, FirstOutcome): document 01's record of zeros is read as `silent`, behind any note; one with another sharpening is turned
+-- ---- a version 1 record (FirstRead, FirstOutcome): the record of zeros is read as `silent`, behind any note; one with another sharpening is turned
 -- back by it
 unfoldable pub first_record : ℤ → ℤ → List ℕ
 first_record sharpening gain = bytes_of (signal_with sharpening gain) ++ (0x4D ∷ 0x37 ∷ 1 ∷ 0 ∷ 0x8A ∷ 1 ∷ 0xC5 ∷ 0 ∷ [])
@@ -74,3 +76,25 @@ pub record FirstApplied : Type 0 where
 -- ---- two records of the same state differ in their notes alone
 abbrev pub RestApplied : Type 0
 RestApplied = drop (length (read_call (note ++ silent_record)).note) (note ++ silent_record) ≡ drop (length (read_call silent_record).note) silent_record
+
+-- ---- record to state to record: the note, and behind it what the writer makes of the state; of version 1 its 197 numbers and its trailer. What was read is
+-- well-formed, and accepted
+pub record BackApplied : Type 0 where
+  pub written : (read_call (note ++ silent_record)).note ++ encoded (read_call (note ++ silent_record)).answer.state ≡ note ++ silent_record
+  pub first :
+      (read_call (note ++ zero_record)).note
+      ++ (bytes_of (take 197 (numbers_of (read_call (note ++ zero_record)).answer.state)) ++ (0x4D ∷ 0x37 ∷ 1 ∷ 0 ∷ 0x8A ∷ 1 ∷ 0xC5 ∷ 0 ∷ []))
+      ≡ note ++ zero_record
+  pub formed : WellFormed (read_call (note ++ zero_record)).answer.state
+  pub accepted : state_outcome (read_call (note ++ zero_record)).answer.state ≡ Ok tt
+
+-- ---- the states that are accepted, both ways: of any sharpening and smoothed gain; of any last lag, last good pair and mark
+pub record AcceptedApplied : Type 0 where
+  pub signal : (x g : ℤ) → is_accepted (state_outcome (state_with x g)) ≡ true → (pos 0 ≤ℤ x) × ((x ≤ℤ pos 13017) × (pos 0 ≤ℤ g))
+  pub signal_so : (x g : ℤ) → pos 0 ≤ℤ x → x ≤ℤ pos 13017 → pos 0 ≤ℤ g → state_outcome (state_with x g) ≡ Ok tt
+  pub losing :
+      (lag p c m : ℤ) → is_accepted (state_outcome (state_losing lag p c m)) ≡ true
+      → (pos 19 ≤ℤ lag) × ((lag ≤ℤ pos 144) × ((pos 0 ≤ℤ p) × ((pos 0 ≤ℤ c) × ((pos 0 ≤ℤ m) × (m ≤ℤ pos 1)))))
+  pub losing_so :
+      (lag p c m : ℤ) → pos 19 ≤ℤ lag → lag ≤ℤ pos 144 → pos 0 ≤ℤ p → pos 0 ≤ℤ c → pos 0 ≤ℤ m → m ≤ℤ pos 1
+      → state_outcome (state_losing lag p c m) ≡ Ok tt

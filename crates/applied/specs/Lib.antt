@@ -14,5 +14,6 @@ pub mod Postfilter
 pub mod Capi
 pub mod Listing
 pub mod Handover
+pub mod Records
 pub mod Peaks
 pub mod Report

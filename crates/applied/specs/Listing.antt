@@ -1,9 +1,7 @@
--- Document 01's listing of the bench program's input and output, whole, as document 02, 3/13, has changed it, and the shift report of that input; the
--- same of sheets that keep the gap and sheets that break it; `StepsOutput` (bench_output/specs/Steps.antt) applied to them and to refused records.
+-- The listing of docs/BENCH.md, "Bench program", input and output, whole, and the shift report of that input; the same of sheets that keep the gap and sheets
+-- that break it; `StepsOutput` (bench_output/specs/Steps.antt) applied to them and to refused records.
 -- The theorems are `listing`, computed from the definitions, and `steps_applied` in proofs/Listing.antt.
-use Rattle.std.specs.Prelude.{◌≡◌, List, [], ◌∷◌, ◌++◌, ℕ, ℤ, pos, replicate, take, set}
-use Prim.Native.Char.{code}
-use Prim.Native.String.{String, [] as []ᵗ, ◌∷◌ as ◌∷ᵗ◌}
+use Rattle.std.specs.Prelude.{◌≡◌, List, [], ◌∷◌, ◌++◌, ℕ, ℤ, pos, replicate, take, set, codes}
 use Rattle.lists.specs.Lists.{minus}
 use Rattle.coding.specs.Bytes.{bytes_of}
 use Rattle.shift_report.specs.Report.{report_output}
@@ -11,11 +9,6 @@ use Rattle.bench_output.specs.Output.{bench_output}
 use Rattle.bench_output.specs.Steps.{program_output}
 use Rattle.applied.specs.Examples.{loud}
 use Rattle.applied.specs.Refusals.{lowest}
-
--- the codes of a text
-unfoldable pub ascii : String → List ℕ
-ascii []ᵗ = []
-ascii (c ∷ᵗ s) = code c ∷ ascii s
 
 -- 394 zero bytes, 4D 37 01 00 8A 01 C5 00
 abbrev pub zero_record : List ℕ
@@ -30,7 +23,7 @@ unfoldable pub input : List ℕ
 input = zero_record ++ (replicate 364 0 ++ (bad_sheet ++ (0 ∷ [])))
 
 abbrev pub output : List ℕ
-output = ascii "1 refused 6 0\n2 refused 2 9\n3 cut\n"
+output = codes "1 refused 6 0\n2 refused 2 9\n3 cut\n"
 
 -- what follows the LSFs
 abbrev zeros : List ℤ
@@ -49,19 +42,19 @@ gap_input =
     ++ (set (take 10 loud) 3 (pos 4300) ++ set zeros 1 (pos 32)))))))
 
 abbrev pub gap_output : List ℕ
-gap_output = ascii "1 0000 0 -\n2 refused 6 0\n3 refused 6 1\n4 refused 6 1\n5 refused 2 5\n6 refused 6 3\n"
+gap_output = codes "1 0000 0 -\n2 refused 6 0\n3 refused 6 1\n4 refused 6 1\n5 refused 2 5\n6 refused 6 3\n"
 
 pub record Listing : Type 0 where
   pub bench : bench_output input ≡ output
   -- both sheets were refused
-  pub report : report_output input ≡ ascii "0 2 0 0 none\n"
+  pub report : report_output input ≡ codes "0 2 0 0 none\n"
   pub gaps : bench_output gap_input ≡ gap_output
-  pub gap_report : report_output gap_input ≡ ascii "1 5 0 0 0\n"
+  pub gap_report : report_output gap_input ≡ codes "1 5 0 0 0\n"
 
 -- what the program's steps print
 pub record StepsApplied : Type 0 where
   pub listing : program_output 4 input ≡ output
   pub gaps : program_output 8 gap_input ≡ gap_output
   -- no byte at all; a record of zeros, and a sheet after it
-  pub short : program_output 0 [] ≡ ascii "state refused 11\n"
-  pub refused : program_output 3 (replicate 402 0 ++ replicate 364 0) ≡ ascii "state refused 12\n"
+  pub short : program_output 0 [] ≡ codes "state refused 11\n"
+  pub refused : program_output 3 (replicate 402 0 ++ replicate 364 0) ≡ codes "state refused 12\n"

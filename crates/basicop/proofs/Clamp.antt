@@ -1,9 +1,8 @@
 -- The clamp, for any width.
 use Rattle.std.proofs.Common.{◌≡◌, refl, sym, ap, ◌∙◌, Bool, true, false, cond, ℕ, zero, suc, min, ◌*◌, ◌-◌, ◌^◌, ◌<◌, ◌≤◌, zero-mul, arith, leb-true, leb-false, ltb-true, ltb-false, T, leb, ltb, lit<, pow_mono, pow_pos, ℤ, pos, negsuc, neg_ℤ, ◌-ℤ◌, ◌*ℤ◌, ◌≤ℤ◌, ◌<ℤ◌, w8, w16, w32, w64, SFits, to_z, of_z, to_z-of_z}
-use lib.Signed.{lt_z}
-use mir.Syntax.{Width, w128}
+use Rattle.std.specs.Int.Signed.{lt_z}
+use Rattle.std.specs.Int.{Width, w128, int_max, int_min}
 use mir.Val.{hbits}
-use Rattle.std.specs.Int.{int_max, int_min}
 use Rattle.basicop.specs.Ops.{clamp, least, most}
 use Rattle.basicop.proofs.Ints.{arith_ℤ, sub_ℤ_is}
 use Rattle.basicop.proofs.Range.{sfits_wider}

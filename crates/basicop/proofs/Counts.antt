@@ -1,7 +1,7 @@
 -- Shifts by a signed count, as the code takes it apart: a count from 0 on, or the opposite of a negative one.
 use Rattle.std.proofs.Common.{◌≡◌, refl, sym, ap, ◌∙◌, ℕ, zero, suc, ◌-◌, ◌^◌, ◌<◌, ◌≤◌, add-one, lt_irrefl, arith, lt-ltb, le-ltb, T, lit<, lit≤, leb→le, ltb→lt, pow_pos, ℤ, pos, negsuc, nat_abs, ◌+ℤ◌, ◌-ℤ◌, ◌*ℤ◌, ◌≤ℤ◌, ◌<ℤ◌, w16, w32, SFits}
-use lib.Signed.{le_z, shr_z}
-use mir.Syntax.{Width}
+use Rattle.std.specs.Int.Signed.{le_z, shr_z}
+use Rattle.std.specs.Int.{Width}
 use mir.Val.{hbits}
 use Rattle.basicop.specs.Ops.{clamp, asr, mod_z, shl, shr, l_shl, l_shr, l_shr_r}
 use borrow.Author.Differences.{sum_is_lem}

@@ -1,8 +1,8 @@
 -- div_s: fifteen turns of shift and subtract come to the quotient (n · 32768) / d, rounded down and held to 32767, for 0 ≤ n ≤ d and 0 < d.
 use Rattle.std.proofs.Common.{◌≡◌, refl, sym, ap, ◌∙◌, Bool, true, false, ℕ, zero, suc, min, ◌+◌, ◌*◌, ◌-◌, ◌/◌, ◌^◌, ◌<◌, ◌≤◌, pow-suc, div-lt_iff_lt-mul, arith, leb-true, leb-false, eqb-true, eq-eqb, ne_eqb, leb, eqb, ℤ, pos, negsuc, ◌*ℤ◌, ◌≤ℤ◌, ◌<ℤ◌, w16}
-use native.Mathlib.Nat.{div-eq_of_lt-le, mul-div_cancel_left}
-use borrow.Author.Tests.{eqb-false}
-use lib.Signed.{quot_z}
+use Rattle.std.proofs.Math.Nat.{div-eq_of_lt-le, mul-div_cancel_left}
+use Rattle.std.proofs.lemmas.Bool.{eqb-false}
+use Rattle.std.specs.Int.Signed.{quot_z}
 use Rattle.lists.specs.Lists.{iter}
 use Rattle.basicop.specs.Ops.{clamp, Turn, turn, div_s}
 use Rattle.basicop.proofs.Ints.{arith_ℤ}

@@ -1,8 +1,8 @@
 -- ℤ by its two parts, as std reads it: z is up z - down z, one of which is 0. Every linear fact over ℤ is one over ℕ.
 use Rattle.std.proofs.Common.{◌≡◌, ℕ, suc, max, ◌+◌, ◌^◌, ◌<◌, ◌≤◌, arith, ℤ, pos, negsuc, neg_ℤ, ◌-ℤ◌, ◌≤ℤ◌, ◌<ℤ◌, SFits}
 use borrow.Author.Differences.{up, down, le_out, lt_out, same_out, at_most_in, below_in, same_in, sum_is_lem, neg_is}
-use lib.Signed.{mag}
-use mir.Syntax.{Width}
+use Rattle.std.specs.Int.Signed.{mag}
+use Rattle.std.specs.Int.{Width}
 use mir.Val.{hbits}
 
 -- std's laws of the order at a goal, with the numbers found

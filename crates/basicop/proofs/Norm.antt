@@ -1,7 +1,7 @@
 -- norm_l: the two bounds of what it normalises, and that the count of leading zeros finds it.
 use Rattle.std.proofs.Common.{◌≡◌, refl, sym, ap, ◌∙◌, subst, Bool, true, false, cond, ℕ, zero, suc, zero-le, suc-le-suc, ◌+◌, ◌*◌, ◌-◌, ◌^◌, ◌<◌, ◌≤◌, pow-suc, mul-le-mul_left, mul-le-mul_right, mul-lt-mul_of_pos_right, lt_irrefl, le_refl, lt_of_mul-lt-mul_right, arith, ltb-true, ltb-false, ltb, ltb→lt, lit≤, pow_mono, pow_pos, pow-add, ℤ, pos, negsuc, ◌*ℤ◌, ◌≤ℤ◌, ◌<ℤ◌, w32, SFits}
-use native.Mathlib.Nat.{pow-zero}
-use lib.Count.{count_leading_zeros, leading_of_zero, leading_top}
+use Rattle.std.proofs.Math.Nat.{pow-zero}
+use Rattle.std.specs.Int.Count.{count_leading_zeros, leading_of_zero, leading_top}
 use Rattle.basicop.specs.Ops.{doublings, norm_l, l_shl}
 use borrow.Author.Differences.{product_is}
 use Rattle.basicop.proofs.Ints.{arith_ℤ}

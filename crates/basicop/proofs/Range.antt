@@ -1,9 +1,9 @@
 -- What fits a signed width, for any width: sums, products, casts.
 use Rattle.std.proofs.Common.{◌≡◌, sym, subst, ℕ, zero, suc, max, ◌+◌, ◌*◌, ◌^◌, ◌<◌, ◌≤◌, mul-le-mul, mul-le-mul_right, mul-lt-mul_of_pos_right, le_refl, lt_of_lt_of_le, arith, T, leb, ltb, leb→le, ltb→lt, pow_pos, ℤ, pos, negsuc, neg_ℤ, nat_abs, ◌+ℤ◌, ◌-ℤ◌, ◌*ℤ◌, ◌≤ℤ◌, SFits, Fits, to_z, of_z, to_z-of_z}
-use lib.Signed.{mag, non_neg, yes_non_neg, pos-nat_abs, nat_abs-le}
-use mir.Syntax.{Width}
+use Rattle.std.specs.Int.Signed.{mag, non_neg, yes_non_neg, pos-nat_abs, nat_abs-le}
+use Rattle.std.specs.Int.{Width}
 use mir.Val.{bits, hbits}
-use mir.Facts.{to_z_pos, Fits-nat_abs}
+use Rattle.std.proofs.Math.Facts.{to_z_pos, Fits-nat_abs}
 use Rattle.std.proofs.lemmas.Int.{unsigned_abs-mul}
 use Rattle.basicop.specs.Ops.{least, most}
 use borrow.Author.Differences.{up, down, sum_is_lem}

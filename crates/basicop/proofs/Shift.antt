@@ -1,9 +1,9 @@
 -- The shift to the right and its remainder.
 use Rattle.std.proofs.Common.{◌≡◌, refl, sym, ap, ◌∙◌, subst, Bool, true, false, ℕ, min, ◌+◌, ◌*◌, ◌/◌, ◌^◌, ◌<◌, ◌≤◌, div-one, div-add-mod', mod-lt, div-le_self, div-lt_iff_lt-mul, lt_of_le_of_lt, lt_of_lt_of_le, arith, leb-true, leb-false, T, leb, ltb, leb→le, ltb→lt, pow-add, pow_mono, shr_lt, ℤ, pos, negsuc, ◌≤ℤ◌, SFits}
-use native.Mathlib.Nat.{div-eq_of_lt, div-div-eq-div-mul}
-use lib.Pow.{shr_mono}
-use lib.Signed.{le_z, mag, shr_z}
-use mir.Syntax.{Width}
+use Rattle.std.proofs.Math.Nat.{div-eq_of_lt, div-div-eq-div-mul}
+use Rattle.std.proofs.Math.Pow.{shr_mono}
+use Rattle.std.specs.Int.Signed.{le_z, mag, shr_z}
+use Rattle.std.specs.Int.{Width}
 use mir.Val.{hbits}
 use Rattle.basicop.specs.Ops.{asr, mod_z}
 use borrow.Author.Differences.{up, down}

@@ -1,6 +1,6 @@
 -- L_Extract: no step of it clamps or wraps, and the halves make up x but for its lowest bit.
 use Rattle.std.proofs.Common.{◌≡◌, sym, ap, ◌∙◌, ◌<◌, arith, lit<, ℤ, pos, ◌-ℤ◌, ◌*ℤ◌, w16, w32, SFits}
-use lib.Signed.{shr_z}
+use Rattle.std.specs.Int.Signed.{shr_z}
 use Rattle.basicop.specs.Ops.{asr, mod_z, l_sub, l_mult, l_extract}
 use borrow.Author.Differences.{product_is}
 use Rattle.basicop.proofs.Ints.{arith_ℤ, sfits_by, sub_ℤ_is}

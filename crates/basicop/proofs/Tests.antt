@@ -1,7 +1,7 @@
 -- A test of two signed numbers, as a branch leaves it, is a fact of their order.
 use Rattle.std.proofs.Common.{◌≡◌, refl, subst, true, false, leb-false, lt-ltb, le-ltb, T, lt→ltb, ltb→lt, leb→le, ℤ, pos, negsuc, ◌≤ℤ◌, ◌<ℤ◌, SFits, to_z, of_z, to_z-of_z}
-use lib.Signed.{le_z, lt_z, lt_z_no}
-use mir.Syntax.{Width}
+use Rattle.std.specs.Int.Signed.{le_z, lt_z, lt_z_no}
+use Rattle.std.specs.Int.{Width}
 
 pub less_yes : {a b : ℤ} → lt_z a b ≡ true → a <ℤ b
 less_yes e = record { lt = rw e tt }

@@ -1,6 +1,6 @@
 -- Sums that no L_mac clamps, by the sizes of what is added.
 use Rattle.std.proofs.Common.{◌≡◌, ⊎_elim, ℕ, zero, suc, ◌+◌, ◌*◌, ◌≤◌, ◌<◌, le_refl, le_of_suc-le-suc, eq-or-lt_of_le, mul-add, arith, ℤ, pos, nat_abs, ◌+ℤ◌, ◌*ℤ◌, w32}
-use lib.IntN.{+ℤ_idl}
+use Rattle.std.proofs.Math.IntN.{+ℤ_idl}
 use Rattle.basicop.specs.Ops.{l_add, l_mult, l_mac}
 use Rattle.basicop.specs.Inner.{Unclamped, sizes}
 use Rattle.basicop.proofs.Ints.{sfits_by}

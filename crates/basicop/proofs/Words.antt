@@ -1,6 +1,6 @@
 -- Lists of 16-bit numbers, put together and taken apart.
 use Rattle.std.proofs.Common.{ℕ, zero, suc, ◌+◌, ◌-◌, ◌≤◌, ◌≡◌, refl, ◌∙◌, List, [], ◌∷◌, ◌++◌, map, arith, lit<, ℤ, pos, length, take, drop, length-append, length-take, length-drop, w16, SFits}
-use lib.ListN.{length-map}
+use Rattle.std.proofs.Math.ListN.{length-map}
 use Rattle.lists.specs.Lists.{at, tab, pairwise}
 use Rattle.lists.proofs.Entries.{length_tab, length_pairwise, each_append, each_tab, each_drop, each_take, each_map, each_pairwise}
 use Rattle.basicop.specs.Ops.{shr, quartered}

@@ -1,8 +1,8 @@
 -- The low bits read as signed, proved over the modulus, for any width: what `wrap` gives is in range, is z up to a multiple of 2 ^ w, and is the only such number.
 use Rattle.std.proofs.Common.{◌≡◌, refl, sym, ap, ◌∙◌, Bool, true, false, ℕ, suc, ◌*◌, ◌-◌, ◌%◌, ◌^◌, ◌<◌, ◌≤◌, mod-eq_of_lt, arith, lt-ltb, le-ltb, ltb-true, ltb-false, ltb, pow_pos, ℤ, pos, negsuc, ◌-ℤ◌, w8, w16, w32, w64, SFits, to_z}
-use mir.Syntax.{Width, w128}
+use Rattle.std.specs.Int.{Width, w128}
 use mir.Val.{bits, hbits}
-use mir.Facts.{to_z_pos, to_z-neg}
+use Rattle.std.proofs.Math.Facts.{to_z_pos, to_z-neg}
 use Rattle.basicop.specs.Ops.{wrap, mod_z}
 use Rattle.basicop.proofs.Ints.{arith_ℤ, sub_ℤ_is}
 use Rattle.basicop.proofs.Shift.{mod_z_lt}

@@ -15,7 +15,7 @@ least w = negsuc (2 ^ hbits w - 1)
 abbrev pub most : Width → ℤ
 most w = pos (2 ^ hbits w - 1)
 
--- z held to the range of the width: document 01's "clamped"
+-- z held to the range of the width
 unfoldable pub clamp : Width → ℤ → ℤ
 clamp w z = if lt_z z (least w) then least w else if lt_z (most w) z then most w else z
 
@@ -99,7 +99,7 @@ l_shr_r x (negsuc n) = l_shl x (pos (suc n))
 abbrev pub extract_h : ℤ → ℤ
 extract_h x = asr x 16
 
--- document 01: "only its low 16 bits are kept, read as signed"
+-- the low 16 bits, read as signed (docs/BENCH.md, "Coefficient rows")
 abbrev pub extract_l : ℤ → ℤ
 extract_l x = wrap w16 x
 
@@ -125,7 +125,7 @@ norm_l (negsuc (suc n)) = pos (doublings 30 (suc n))
 -- ---- div_s, for 0 ≤ n ≤ d and 0 < d. A quotient is had only here, with what it was divided by
 pub record Quotient : Type 0 where
   pub value : ℤ
-  -- document 01's divisor: "any number that the definition divides by, at a division it reaches"
+  -- any number by which the definition divides, at a division that it comes to (docs/BENCH.md, "Recurrence")
   pub divisor : ℤ
 
 -- what is left of the numerator, and the quotient so far

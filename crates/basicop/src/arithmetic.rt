@@ -24,7 +24,7 @@ pub fn mult(a: i16, b: i16) -> i16
     clamp16(((a as i32) * (b as i32)) >> 15)
 }
 
-// n / d as a fraction of fifteen bits
+/// n / d as a fraction of fifteen bits
 pub fn div_s(n: i16, d: i16) -> i16
     requires { (pos 0 ≤ℤ n) × (n ≤ℤ d) × (pos 0 <ℤ d) }
     ensures { result ≡ (div_s n d).value }

@@ -18,7 +18,7 @@ fn residue(x: i32) -> i32
     x & 0xffff
 }
 
-// Document 01's truncation, Rust's `x as i16`.
+/// The low 16 bits of x, read as signed: Rust's `x as i16`.
 pub fn extract_l(x: i32) -> i16
     ensures { result ≡ extract_l x }
 {

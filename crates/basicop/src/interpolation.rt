@@ -7,7 +7,7 @@ use crate::arithmetic::{l_msu, sub};
 use crate::extraction::l_deposit_h;
 use crate::oper_32b::l_extract;
 
-// The high word less a base, and the low 15 bits of x >> 1: L_Extract's halves are the two.
+/// The high word less a base, and the low 15 bits of x >> 1: L_Extract's halves are the two.
 pub fn locate(x: i32, base: i16) -> Position
     ensures { result ≡ position_of base x }
 {
@@ -18,7 +18,7 @@ pub fn locate(x: i32, base: i16) -> Position
     }
 }
 
-// From an entry to the next, in a table of any length. The caller shows that the position has an entry after it.
+/// From an entry to the next, in a table of any length. The caller shows that the position has an entry after it.
 pub fn interpolate(table: &[i16], position: Position) -> i32
     requires { (pos 0 ≤ℤ position.index) × ((position.index +ℤ pos 1) <ℤ pos (length table.now)) }
     ensures { result ≡ interpolated table.now position }

@@ -6,7 +6,7 @@ use crate::Dpf;
 use crate::arithmetic::{l_mac, l_mult, mult};
 use crate::extraction::extract_h;
 
-// The low half needs no clamp: it is x >> 1 without the bits of the high half.
+/// The low half needs no clamp: it is x >> 1 without the bits of the high half.
 pub fn l_extract(x: i32) -> Dpf
     ensures { result ≡ l_extract x }
 {

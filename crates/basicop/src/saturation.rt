@@ -3,14 +3,14 @@ ghost use Rattle.std.specs.Prelude.{◌≡◌};
 ghost use Rattle.std.specs.Int.{w16, w32};
 ghost use Rattle.basicop.specs.Ops.{clamp};
 
-// x held to the range of an i16
+/// x held to the range of an i16
 pub fn clamp16(x: i32) -> i16
     ensures { result ≡ clamp w16 x }
 {
     x.clamp(i16::MIN as i32, i16::MAX as i32) as i16
 }
 
-// x held to the range of an i32
+/// x held to the range of an i32
 pub fn clamp32(x: i64) -> i32
     ensures { result ≡ clamp w32 x }
 {

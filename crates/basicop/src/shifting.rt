@@ -64,7 +64,7 @@ pub fn shr(x: i16, n: i16) -> i16
     clamp16(l_shr(x as i32, n))
 }
 
-// The bit that is added is x >> (n - 1) less twice x >> n.
+/// The bit that is added is x >> (n - 1) less twice x >> n.
 pub fn l_shr_r(x: i32, n: i16) -> i32
     ensures { result ≡ l_shr_r x n }
 {

@@ -1,2 +1,3 @@
 pub mod Output
 pub mod Steps
+pub mod Serving

@@ -1,5 +1,5 @@
--- The bench program's output, whole, of its whole input: document 01, "The bench program's lines".
-use Rattle.std.specs.Prelude.{if◌then◌else◌, List, [], ◌∷◌, ◌++◌, map, ℕ, suc, ◌==◌, length, take, drop}
+-- The bench program's output, whole, of its whole input: docs/BENCH.md, "Bench program".
+use Rattle.std.specs.Prelude.{if◌then◌else◌, List, [], ◌∷◌, ◌++◌, map, ℕ, ◌+◌, ◌==◌, length, take, drop}
 use Rattle.decoder.specs.Subframe.{flag_of}
 use Rattle.state.specs.declared.State.{State}
 use Rattle.outcome.specs.Outcome.{number_of, place_of, is_accepted}
@@ -22,7 +22,7 @@ unfoldable pub sheet_lines : ℕ → State → List (List ℕ) → List ℕ
 sheet_lines n s [] = []
 sheet_lines n s (sheet ∷ sheets) =
     let k = sheet_call sheet s in
-    if length sheet == sheet_bytes then answer_line n k ++ sheet_lines (suc n) k.answer.next sheets else cut_line n
+    if length sheet == sheet_bytes then answer_line n k ++ sheet_lines (n + 1) k.answer.next sheets else cut_line n
 
 -- a record, as far as it came, and sheets, numbered from 1; of a bad or short record `state refused` and the number, and nothing more
 unfoldable pub bench_output : List ℕ → List ℕ

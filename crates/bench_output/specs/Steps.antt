@@ -1,33 +1,34 @@
--- The program's steps, one for each sheet that it reads, and what they come to together. The theorem is `steps_output` in proofs/Steps.antt.
-use Rattle.std.specs.Prelude.{◌≡◌, true, false, if◌then◌else◌, List, [], ◌++◌, ℕ, zero, suc, ◌≤◌, ◌*◌, ◌==◌, length, take, drop}
+-- The program's steps, one for each sheet that it reads, and what they come to together. The theorem is `steps_output` in proofs/Steps.antt, which `laws` in
+-- src/lib.rt ensures.
+use Rattle.std.specs.Prelude.{◌≡◌, if◌then◌else◌, List, [], ◌++◌, ℕ, ◌+◌, ◌≤◌, ◌*◌, ◌==◌, length, take, drop, Some, None, option_map}
+use Rattle.lists.specs.Parts.{joined}
 use Rattle.state.specs.declared.State.{State}
 use Rattle.lines.specs.Lines.{cut_line}
-use Rattle.sheets.specs.Sheets.{record_bytes, sheet_bytes, sheet_call, StepResult, step_result, opening_step}
+use Rattle.sheets.specs.declared.Step.{Step}
+use Rattle.sheets.specs.Sheets.{record_bytes, sheet_bytes, sheet_call, step_result, opening_step}
+use Rattle.sheets.specs.Rounds.{rounds}
+use Rattle.bench_output.specs.declared.Carried.{Carried}
 use Rattle.bench_output.specs.Output.{answer_line, bench_output}
 
--- of what was read of sheet n, with the state s: nothing, a whole sheet, or some of one
-unfoldable pub sheet_step : ℕ → State → List ℕ → StepResult
-sheet_step n s bytes =
-    let k = sheet_call bytes s in
+-- what is carried to the sheet of number n
+abbrev pub carried : ℕ → State → Carried
+carried n s = record { number = n; state = s }
+
+-- of what was read of the next sheet: nothing, a whole sheet, or some of one
+unfoldable pub sheet_step : Carried → List ℕ → Step (List ℕ) Carried
+sheet_step c bytes =
+    let k = sheet_call bytes c.state in
     if length bytes == 0
-    then step_result [] s false
+    then step_result [] None
     else if length bytes == sheet_bytes
-    then step_result (answer_line n k) k.answer.next true
-    else step_result (cut_line n) s false
+    then step_result (answer_line c.number k) (Some (carried (c.number + 1) k.answer.next))
+    else step_result (cut_line c.number) None
 
--- what so many rounds of the program's loop print, from sheet n on: each reads as many bytes as a sheet has, or what is left of the input, and takes
--- a step on them; the loop ends where a step says so
-unfoldable pub loop_output : ℕ → ℕ → State → List ℕ → List ℕ
-loop_output zero n s input = []
-loop_output (suc k) n s input =
-    let r = sheet_step n s (take sheet_bytes input) in
-    r.line ++ (if r.more then loop_output k (suc n) r.next (drop sheet_bytes input) else [])
-
--- what the program prints: the first step, and the loop after it, of at most so many rounds
+-- what the program prints: of the record, and of at most so many rounds over the sheets after it, the first of them with number 1
 unfoldable pub program_output : ℕ → List ℕ → List ℕ
 program_output k input =
     let r = opening_step (take record_bytes input) in
-    r.line ++ (if r.more then loop_output k 1 r.next (drop record_bytes input) else [])
+    r.made ++ joined (rounds sheet_step k (option_map (carried 1) r.next) (drop record_bytes input))
 
 -- of any input, with rounds enough for it, the program prints `bench_output`
 abbrev pub StepsOutput : Type 0

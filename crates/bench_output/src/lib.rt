@@ -1,20 +1,27 @@
-// The bench program's steps: what it prints of each sheet that it reads, and the state for the next.
+//! The bench program: what it prints of each sheet that it reads, and the whole of it over any reader and writer.
 #![tactic(auto)]
 
-ghost use Rattle.std.specs.Prelude.{◌≡◌};
+ghost use Rattle.std.specs.Prelude.{◌≡◌, ◌<◌};
 ghost use Rattle.mr74.specs.Frame.{call_result};
-ghost use Rattle.sheets.specs.Sheets.{step_result, told};
 ghost use Rattle.bench_output.specs.Output.{answer_line};
-ghost use Rattle.bench_output.specs.Steps.{sheet_step};
+ghost use Rattle.bench_output.specs.Steps.{sheet_step, StepsOutput};
+
+mod serving;
 
 use lines::Line;
 use mr74::{FrameAnswer, SAMPLES, SHEET_BYTES};
+pub use serving::serve;
 use sheets::{Decoded, Step};
 use state::State;
-use std::ops::ControlFlow;
+
+/// What is carried from a sheet to the next: the number of the sheet that comes, and the state for it.
+#[derive(Clone, Copy)]
+pub struct Carried {
+    pub number: u64,
+    pub state: State,
+}
 
 // The line of a sheet's answer.
-#[tactic(auto, using(crate::proofs::Answers::line_accepted, crate::proofs::Answers::line_refused))]
 fn answer_line(number: u64, answer: FrameAnswer, samples: [i16; SAMPLES]) -> Line
     ensures { result ≡ answer_line number (call_result answer samples) }
 {
@@ -25,32 +32,42 @@ fn answer_line(number: u64, answer: FrameAnswer, samples: [i16; SAMPLES]) -> Lin
 }
 
 // A whole sheet: its line, and the state that its call gives back.
-#[tactic(auto, using(crate::proofs::Answers::step_whole))]
-fn whole_step(number: u64, sheet: &[u8; SHEET_BYTES], state: State) -> Step<Line>
-    ensures { told step_result result ≡ sheet_step number state sheet.now }
+fn whole_step(sheet: &[u8; SHEET_BYTES], carried: Carried) -> Step<Line, Carried>
+    requires { carried.number < u64.MAX }
+    ensures { result ≡ sheet_step carried sheet.now }
 {
+    let Carried { number, state } = carried;
     let Decoded { answer, samples } = sheets::decode_bytes(sheet, state);
-    let next = ControlFlow::Continue(answer.next);
+    let next = Carried {
+        number: number + 1,
+        state: answer.next,
+    };
     Step {
         made: answer_line(number, answer, samples),
-        next,
+        next: Some(next),
     }
 }
 
-// The step of what was read of a sheet: all of it, nothing, or some.
-#[tactic(auto, using(crate::proofs::Answers::step_none, crate::proofs::Answers::step_cut))]
-pub fn step(number: u64, bytes: &[u8], state: State) -> Step<Line>
-    ensures { told step_result result ≡ sheet_step number state bytes.now }
+/// The step of what was read of a sheet: all of it, nothing, or some.
+pub fn step(bytes: &[u8], carried: Carried) -> Step<Line, Carried>
+    requires { carried.number < u64.MAX }
+    ensures { result ≡ sheet_step carried bytes.now }
 {
     match bytes.as_array() {
-        Some(sheet) => whole_step(number, sheet, state),
+        Some(sheet) => whole_step(sheet, carried),
         None if bytes.is_empty() => Step {
             made: Line::new(),
-            next: ControlFlow::Break(state),
+            next: None,
         },
         None => Step {
-            made: lines::cut_line(number),
-            next: ControlFlow::Break(state),
+            made: lines::cut_line(carried.number),
+            next: None,
         },
     }
+}
+
+/// What the steps come to together.
+pub fn laws()
+    ensures { StepsOutput }
+{
 }

@@ -1,5 +1,5 @@
--- One call: what it gives, and what it keeps. A kind of call has a clause in `accepts` and one in `refuses`.
-use Rattle.std.proofs.Common.{◌≡◌, refl, sym, ap, ◌∙◌, subst, Bool, true, false, List, ℤ, length, get_or}
+-- One call, of any kind: what it gives, and what it keeps.
+use Rattle.std.proofs.Common.{◌≡◌, refl, sym, ap, ◌∙◌, subst, Bool, true, false, length, get_or}
 use lib.ListN.{length-map}
 use Rattle.lists.specs.Lists.{Every}
 use Rattle.basicop.specs.Words.{Words}
@@ -9,19 +9,14 @@ use Rattle.state.specs.declared.State.{State}
 use Rattle.std.specs.Prelude.{Ok}
 use Rattle.outcome.specs.Outcome.{Outcome, is_accepted}
 use Rattle.state.specs.State.{SignalFormed, ConcealmentFormed, WellFormed, state_outcome}
-use Rattle.state.proofs.Checks.{InRange, in_range_accepted}
-use Rattle.mr74.specs.Prepass.{Prepared}
-use Rattle.mr74.specs.Sheet.{frame_prepared}
-use Rattle.mr74.specs.Checks.{frame_outcome, indexed_outcome, erased_outcome}
-use Rattle.mr74.specs.Frame.{Trace, core_result_of, accepted_trace, refused_trace, trace_by, frame_trace}
-use Rattle.mr74.specs.Indexed.{indexed_prepared, opened_memory, indexed_trace}
-use Rattle.mr74.specs.Erased.{erased_prepared, erased_trace}
-use Rattle.mr74.proofs.Passed.{passed}
-use Rattle.mr74.proofs.IndexPassed.{index_passed}
-use Rattle.mr74.proofs.ErasedPassed.{erased_passed}
-use Rattle.mr74.proofs.Usable.{UsablePrepared, usable, index_usable, erased_usable}
-use Rattle.mr74.proofs.Formed.{frame_formed, index_formed, erased_formed}
-use Rattle.calls.specs.Calls.{Call, FrameCall, IndexCall, ErasedCall, trace_of, next_state, accepted, NextAccepted, SheetFits, NextWellFormed}
+use Rattle.state.proofs.Checks.{InRange, in_range, in_range_accepted}
+use Rattle.kinds.specs.Kind.{kind_of, call_outcome}
+use Rattle.kinds.specs.Prepass.{PreparedFrame, prepared}
+use Rattle.kinds.proofs.Passed.{passed}
+use Rattle.kinds.proofs.Usable.{UsablePrepared, usable}
+use Rattle.kinds.proofs.Formed.{formed}
+use Rattle.mr74.specs.Frame.{Trace, core_result_of, accepted_trace, refused_trace, call_trace}
+use Rattle.calls.specs.Calls.{Call, trace_of, next_state, accepted, NextAccepted, SheetFits, NextWellFormed}
 use Rattle.calls.proofs.Frames.{NextFacts, FrameFacts, frame_facts}
 
 -- by cases
@@ -29,72 +24,50 @@ pub decided : {P : Type 0} (b : Bool) → (b ≡ true → P) → (b ≡ false �
 decided true f g = f refl
 decided false f g = g refl
 
--- ---- a call, by what its checks come to
-module _ (o : Outcome) (p : Prepared) (s : State) (out : List ℤ) where
-  by_accepted : is_accepted o ≡ true → trace_by o p s out ≡ accepted_trace o p s
-  by_accepted e = rw e
-
-  by_refused : is_accepted o ≡ false → trace_by o p s out ≡ refused_trace o s out
-  by_refused e = rw e
-
-  -- a trace is accepted exactly when no check turns the call back
-  accepted_is : accepted (trace_by o p s out) ≡ is_accepted o
-  accepted_is = decided (is_accepted o) (λ e. ap accepted (by_accepted e)) (λ e. ap accepted (by_refused e))
-
 -- ---- an accepted call: its trace is that of usable inputs, the state's checks let its state pass, and its concealment stays one of 16 bits
 pub record Accepts (s : State) (c : Call) : Type 0 where
   pub outcome : Outcome
-  pub frame : Prepared
+  pub frame : PreparedFrame
   pub usable : UsablePrepared frame
   pub state : InRange s
   pub trace : trace_of s c ≡ accepted_trace outcome frame s
   pub formed : ConcealmentFormed s.concealment → SheetFits c → ConcealmentFormed frame.concealment
 
-pub accepts : (s : State) (c : Call) → accepted (trace_of s c) ≡ true → Accepts s c
-unfolding frame_trace indexed_trace erased_trace
-accepts s (FrameCall sheet out) e =
-    let o = frame_outcome sheet s (length out) in
-    let f = frame_prepared sheet s.concealment in
-    let a = sym (accepted_is o f s out) ∙ e in
-    let p = passed sheet s (length out) a in
-    let u = usable p in
-    record { outcome = o; frame = f; usable = u; state = p.state; trace = by_accepted o f s out a; formed = λ w h. frame_formed sheet s.concealment h w u }
-accepts s (IndexCall logs pows energies sheet out) e =
-    let o = indexed_outcome logs pows sheet s (length out) in
-    let m = opened_memory energies s in
-    let f = (indexed_prepared logs pows sheet s.concealment m).frame in
-    let a = sym (accepted_is o f s out) ∙ e in
-    let p = index_passed logs pows sheet s (length out) a in
-    let u = index_usable m p.state.concealment.gains p in
-    record { outcome = o; frame = f; usable = u; state = p.state; trace = by_accepted o f s out a; formed = λ w h. index_formed logs pows sheet s.concealment m p.kept.gain_indices w.gains u }
-accepts s (ErasedCall energies sheet out) e =
-    let o = erased_outcome sheet s (length out) in
-    let f = erased_prepared sheet s.concealment in
-    let a = sym (accepted_is o f s out) ∙ e in
-    let p = erased_passed sheet s (length out) a in
-    let u = erased_usable p in
-    record { outcome = o; frame = f; usable = u; state = p.state; trace = by_accepted o f s out a; formed = λ w h. erased_formed sheet s.concealment w u }
-
 -- a refused one gives the state back, and has no subframe
 pub record Refuses (s : State) (c : Call) : Type 0 where
   pub outcome : Outcome
-  pub out : List ℤ
-  pub trace : trace_of s c ≡ refused_trace outcome s out
+  pub trace : trace_of s c ≡ refused_trace outcome c.energies s c.out
 
-refused_by : (o : Outcome) (p : Prepared) (s : State) (out : List ℤ) → accepted (trace_by o p s out) ≡ false → trace_by o p s out ≡ refused_trace o s out
-refused_by o p s out e = by_refused o p s out (sym (accepted_is o p s out) ∙ e)
+module _ (s : State) (c : Call) where
+  abbrev o : Outcome
+  o = call_outcome (kind_of c.kind) c.sheet s (length c.out)
 
-pub refuses : (s : State) (c : Call) → accepted (trace_of s c) ≡ false → Refuses s c
-unfolding frame_trace indexed_trace erased_trace
-refuses s (FrameCall sheet out) e =
-    let o = frame_outcome sheet s (length out) in
-    record { outcome = o; out = out; trace = refused_by o (frame_prepared sheet s.concealment) s out e }
-refuses s (IndexCall logs pows energies sheet out) e =
-    let o = indexed_outcome logs pows sheet s (length out) in
-    record { outcome = o; out = out; trace = refused_by o (indexed_prepared logs pows sheet s.concealment (opened_memory energies s)).frame s out e }
-refuses s (ErasedCall energies sheet out) e =
-    let o = erased_outcome sheet s (length out) in
-    record { outcome = o; out = out; trace = refused_by o (erased_prepared sheet s.concealment) s out e }
+  by_accepted : is_accepted o ≡ true → trace_of s c ≡ accepted_trace o (prepared (kind_of c.kind) c.energies c.sheet s) s
+  unfolding call_trace
+  by_accepted e = rw e refl
+
+  by_refused : is_accepted o ≡ false → trace_of s c ≡ refused_trace o c.energies s c.out
+  unfolding call_trace
+  by_refused e = rw e refl
+
+  -- a trace is accepted exactly when no check turns the call back
+  accepted_is : accepted (trace_of s c) ≡ is_accepted o
+  accepted_is = decided (is_accepted o) (λ e. ap accepted (by_accepted e)) (λ e. ap accepted (by_refused e))
+
+  pub accepts : accepted (trace_of s c) ≡ true → Accepts s c
+  accepts e =
+      let a = sym accepted_is ∙ e in
+      record {
+        outcome = o;
+        frame = prepared (kind_of c.kind) c.energies c.sheet s;
+        usable = usable c.kind c.energies c.sheet s (length c.out) a;
+        state = in_range s (passed c.kind c.sheet s (length c.out) a).state;
+        trace = by_accepted a;
+        formed = λ w h. formed c.kind c.energies c.sheet s (length c.out) a h w;
+      }
+
+  pub refuses : accepted (trace_of s c) ≡ false → Refuses s c
+  refuses e = record { outcome = o; trace = by_refused (sym accepted_is ∙ e) }
 
 pub next_refused : (s : State) (c : Call) → accepted (trace_of s c) ≡ false → next_state s c ≡ s
 next_refused s c e = ap (λ (t : Trace). t.next) (refuses s c e).trace

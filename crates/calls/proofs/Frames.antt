@@ -21,26 +21,26 @@ use Rattle.state.specs.declared.State.{State}
 use Rattle.outcome.specs.Outcome.{Outcome}
 use Rattle.state.specs.State.{SignalFormed}
 use Rattle.state.proofs.Checks.{InRange}
-use Rattle.mr74.specs.Prepass.{Prepared}
-use Rattle.mr74.proofs.Usable.{UsablePrepared}
+use Rattle.kinds.specs.Prepass.{PreparedFrame}
+use Rattle.kinds.proofs.Usable.{UsablePrepared}
 use Rattle.mr74.specs.Frame.{core_result_of, post_result_of, next_state_of, accepted_trace}
 
 in_16 : {z n : ℤ} → n ≤ℤ pos 32767 → pos 0 ≤ℤ z → z ≤ℤ n → SFits w16 z
 in_16 {z} l f t = sfits_from w16 z (≤ℤ_trans (le_z_yes tt) f) (≤ℤ_trans t l)
 
--- the state that a frame leaves; its smoothed gain is at most 32748, where demand 3 asks for 32765
+-- the state that a frame leaves; its smoothed gain is at most 32748, where the statement over lists of calls asks for 32765
 pub record NextFacts (s : State) : Type 0 where
   pub formed : SignalFormed s
   pub passes : InRange s
   pub gain : s.post.gain.previous_gain ≤ℤ pos 32748
 
-pub record FrameFacts (p : Prepared) (s : State) : Type 0 where
+pub record FrameFacts (p : PreparedFrame) (s : State) : Type 0 where
   pub core : CoreFacts (lsps_of p.inputs.lsfs) (core_result_of p.inputs s)
   pub post : Framed 512 4 (post_result_of p.inputs s)
   pub samples : Words 160 (post_result_of p.inputs s).output.samples
   pub next : NextFacts (next_state_of p s)
 
-module _ (q : Prepared) (s : State) (u : UsablePrepared q) (w : SignalFormed s) (k : InRange s) where
+module _ (q : PreparedFrame) (s : State) (u : UsablePrepared q) (w : SignalFormed s) (k : InRange s) where
   abbrev inputs : FrameInputs
   inputs = q.inputs
 

@@ -1,4 +1,4 @@
--- The kinds of calls, and lists of them: document 01, "each call given the state that the last one gave back".
+-- Calls, and lists of them (docs/BENCH.md, "Lists of calls"): each call is given the state that the last one gave back.
 use Rattle.std.specs.Prelude.{◌≡◌, Ok, Bool, true, false, if◌then◌else◌, ◌||◌, List, [], ◌∷◌, ℕ, ℤ, slice_index_or}
 use Rattle.std.specs.Int.{w16}
 use Rattle.std.proofs.Common.{SFits}
@@ -6,21 +6,19 @@ use Rattle.lists.specs.Lists.{at}
 use Rattle.state.specs.declared.State.{State}
 use Rattle.state.specs.State.{WellFormed, state_outcome}
 use Rattle.outcome.specs.Outcome.{is_accepted}
-use Rattle.mr74.specs.Frame.{Trace, frame_trace}
-use Rattle.mr74.specs.Indexed.{indexed_trace}
-use Rattle.mr74.specs.Erased.{erased_trace}
+use Rattle.kinds.specs.Kind.{SheetKind, FrameSheet, IndexSheet, ErasedSheet, kind_of}
+use Rattle.mr74.specs.Frame.{Trace, call_trace, result_of, energies_result_of, frame_call, index_call, erased_call}
 
--- a call brings its own sheet and output; an index call (document 02, 5/13) brings its own tables and past energies too, and an erased call (7/13) its own past
--- energies, of any length and content
-pub data Call : Type 0 where
-  FrameCall : (sheet out : List ℤ) → Call
-  IndexCall : (logs pows energies sheet out : List ℤ) → Call
-  ErasedCall : (energies sheet out : List ℤ) → Call
+-- a call brings its own kind of sheet, an index sheet's tables with it, and its own past energies, sheet and output, all of any length and content. (A frame sheet's
+-- call goes by no energies.)
+pub record Call : Type 0 where
+  pub kind : SheetKind
+  pub energies : List ℤ
+  pub sheet : List ℤ
+  pub out : List ℤ
 
 abbrev pub trace_of : State → Call → Trace
-trace_of s (FrameCall sheet out) = frame_trace sheet s out
-trace_of s (IndexCall logs pows energies sheet out) = indexed_trace logs pows energies sheet s out
-trace_of s (ErasedCall energies sheet out) = erased_trace sheet s out
+trace_of s c = call_trace (kind_of c.kind) c.energies c.sheet s c.out
 
 abbrev pub next_state : State → Call → State
 next_state s c = (trace_of s c).next
@@ -52,14 +50,21 @@ latest_place before (t ∷ ts) = latest_place (if accepted t then slice_index_or
 abbrev pub NextAccepted : Type 0
 NextAccepted = (s : State) (c : Call) → WellFormed s → accepted (trace_of s c) ≡ true → state_outcome (next_state s c) ≡ Ok tt
 
--- and any call, whose sheet has numbers of 16 bits, a well-formed one
-abbrev pub sheet_of : Call → List ℤ
-sheet_of (FrameCall sheet out) = sheet
-sheet_of (IndexCall logs pows energies sheet out) = sheet
-sheet_of (ErasedCall energies sheet out) = sheet
-
+-- and any call a well-formed one; of a frame sheet, whose gains go on, where its numbers have 16 bits
 abbrev pub SheetFits : Call → Type 0
-SheetFits c = (k : ℕ) → SFits w16 (at (sheet_of c) k)
+SheetFits c = c.kind ≡ FrameSheet → (k : ℕ) → SFits w16 (at c.sheet k)
 
 abbrev pub NextWellFormed : Type 0
 NextWellFormed = (s : State) (c : Call) → WellFormed s → SheetFits c → WellFormed (next_state s c)
+
+-- ---- what a call gives is a projection of its trace: the frame call's of any energies, and the two others'. The theorem is `answers_traced` in proofs/Answers.antt
+abbrev pub call_of : SheetKind → List ℤ → List ℤ → List ℤ → Call
+call_of kind energies sheet out = record { kind = kind; energies = energies; sheet = sheet; out = out }
+
+pub record Traced (logs pows energies sheet : List ℤ) (s : State) (out : List ℤ) : Type 0 where
+  pub frame : frame_call sheet s out ≡ result_of (trace_of s (call_of FrameSheet energies sheet out))
+  pub index : index_call logs pows energies sheet s out ≡ energies_result_of (trace_of s (call_of (IndexSheet logs pows) energies sheet out))
+  pub erased : erased_call energies sheet s out ≡ energies_result_of (trace_of s (call_of ErasedSheet energies sheet out))
+
+abbrev pub AnswersTraced : Type 0
+AnswersTraced = (logs pows energies sheet : List ℤ) (s : State) (out : List ℤ) → Traced logs pows energies sheet s out

@@ -1,7 +1,8 @@
 /* The frame calls, the call of a gain index, the reader and the writer of MR74 (crates/capi, libcapi.a).
  *
  * Numbers of 16 bits are two bytes each, two's complement, low byte first. A buffer is a pointer, which is not null, and its
- * length in bytes; no two buffers of a call overlap. A state is the 426 bytes of the body of a version 2 record.
+ * length in bytes. A buffer that a call writes (one without const, and *note) overlaps no other one of the call; two that it
+ * only reads may overlap. A state is the 426 bytes of the body of a version 2 record.
  *
  * A call returns number + 256 * place: the refusal's number, 0 where the call was accepted, and the refusal's place, 0 where
  * its line below names none (it is none of the four in places). It returns MR74_UNFIT, and changes nothing, where state,
@@ -34,6 +35,10 @@
 
 #include <stddef.h>
 #include <stdint.h>
+
+#ifdef __cplusplus
+extern "C" {
+#endif
 
 #define MR74_SHEET_BYTES 364
 #define MR74_INDEX_SHEET_BYTES 356
@@ -83,10 +88,15 @@ uint32_t mr74_gain_decode(int16_t index, const uint8_t *innovation, size_t innov
                           size_t energies_bytes, uint8_t *gains, size_t gains_bytes);
 
 /* Reads a record of version 2, or of version 1, whose state gets last lag 40 and zeros in the other fields that it has not.
- * Accepted: its state in state; the note is the first *note bytes of the record. Refused: state is all zero, *note is 0. */
+ * Accepted: its state in state; the note is the first *note bytes of the record. Refused: state is all zero, *note is 0. note is
+ * not null. */
 uint32_t mr74_read(const uint8_t *record, size_t record_bytes, uint8_t *state, size_t state_bytes, size_t *note);
 
 /* Writes the record of a state, of version 2: 434 bytes without a note. Refused: record stays as it is. */
 uint32_t mr74_write(const uint8_t *state, size_t state_bytes, uint8_t *record, size_t record_bytes);
+
+#ifdef __cplusplus
+}
+#endif
 
 #endif

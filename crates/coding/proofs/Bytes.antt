@@ -1,10 +1,11 @@
 -- Numbers of 16 bits and their bytes: one number, loops over them, and both ways after one another.
-use Rattle.std.proofs.Common.{◌≡◌, refl, ap, ap₂, sym, ◌∙◌, Bool, true, false, List, [], ◌∷◌, append_assoc, ℕ, zero, suc, ◌+◌, ◌-◌, ◌*◌, ◌/◌, ◌%◌, ◌^◌, ◌≤◌, ◌<◌, arith, ltb, ℤ, pos, negsuc, length, take, set, get_or, length-set, take_all, ltb-false, lt-ltb, le-ltb, w16, to_z, of_z, SFits}
+use Rattle.std.proofs.Common.{◌≡◌, refl, ap, sym, ◌∙◌, Bool, true, false, List, [], ◌∷◌, append_assoc, ℕ, zero, suc, ◌+◌, ◌-◌, ◌*◌, ◌/◌, ◌%◌, ◌^◌, ◌≤◌, ◌<◌, arith, ltb, ℤ, pos, negsuc, length, take, set, get_or, length-set, take_all, ltb-true, ltb-false, lt-ltb, le-ltb, w16, to_z, of_z, SFits}
 use lib.Signed.{mag}
 use Rattle.std.proofs.lemmas.List.{take_more, take_more_set}
 use Rattle.std.specs.Int.{to_le_bytes}
 use Rattle.lists.specs.Lists.{at, minus}
 use Rattle.lists.proofs.Signed.{back}
+use Rattle.basicop.proofs.Words.{zero_fits}
 use Rattle.coding.specs.Bytes.{signed16, bits16, unsigned, words, bytes_of, Bytes}
 use Rattle.coding.proofs.Laid.{bytes_append}
 
@@ -37,14 +38,6 @@ pub put_done : (dst : List ℕ) (src : List ℤ) (i : ℕ) → length dst ≡ 2 
 put_done dst src i l h inv =
     let k : length dst ≤ 2 * i = omega (arith, l) in
     sym (take_all (2 * i) dst k) ∙ inv ∙ ap bytes_of (take_all i src h)
-
--- a number that went through a local
-pub one_put : {y : List ℕ} (z : ℤ) → mag z < 2 ^ 15 → y ≡ bytes_of (to_z w16 (of_z w16 z) ∷ []) → y ≡ bytes_of (z ∷ [])
-one_put z h e = e ∙ ap (λ (x : ℤ). bytes_of (x ∷ [])) (back w16 h)
-
--- two numbers so
-pub two_put : {b : List ℕ} (y z : ℤ) → mag y < 2 ^ 15 → mag z < 2 ^ 15 → b ≡ bytes_of (to_z w16 (of_z w16 y) ∷ to_z w16 (of_z w16 z) ∷ []) → b ≡ bytes_of (y ∷ z ∷ [])
-two_put y z h k e = e ∙ ap₂ (λ (a b : ℤ). bytes_of (a ∷ b ∷ [])) (back w16 h) (back w16 k)
 
 -- ---- there and back
 pub number_back : (x : ℤ) → mag x < 2 ^ 15 → signed16 (unsigned (bits16 x % 256) (bits16 x / 256)) ≡ x
@@ -83,3 +76,21 @@ bytes_back n [] l f = refl
 bytes_back n (x ∷ []) l f = absurd (omega (arith, l))
 bytes_back zero (x ∷ y ∷ b) l f = absurd (omega (arith, l))
 bytes_back (suc n) (x ∷ y ∷ b) l f = let p = bytes_of_pair x y (f 0) (f 1) in λ i. p.0 i ∷ p.1 i ∷ bytes_back n b (omega (arith, l)) (λ j. f (suc (suc j))) i
+
+-- ---- the number of two bytes has 16 bits
+signed16_fits : (n : ℕ) → n < 65536 → SFits w16 (signed16 n)
+signed16_fits n h = go (ltb n 32768) refl
+  where
+    go : (b : Bool) → ltb n 32768 ≡ b → SFits w16 (signed16 n)
+    go true e = rw e (record { sfits = ltb-true n 32768 e })
+    go false e =
+        let l : 32768 ≤ n = ltb-false n 32768 e in
+        let k : 65536 - n ≡ suc (65535 - n) = omega arith in
+        rw (e, k) (record { sfits = omega arith })
+
+pub words_fit : (b : List ℕ) → Bytes b → (i : ℕ) → SFits w16 (at (words b) i)
+unfolding words
+words_fit [] f i = zero_fits
+words_fit (x ∷ []) f i = zero_fits
+words_fit (x ∷ y ∷ b) f zero = signed16_fits (x + 256 * y) (omega (arith, f 0, f 1))
+words_fit (x ∷ y ∷ b) f (suc i) = words_fit b (λ j. f (suc (suc j))) i

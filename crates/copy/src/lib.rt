@@ -3,7 +3,7 @@
 
 ghost use Rattle.std.specs.Prelude.{◌≡◌, ◌+◌, ◌-◌, ◌≤◌, ◌++◌, length, take, drop, replicate, pos};
 
-// N of the numbers, from the one at `from` on, lent.
+/// N of the numbers, from the one at `from` on, lent.
 pub fn window<const N: usize>(numbers: &[i16], from: usize) -> &[i16; N]
     requires { from + N ≤ length numbers.now }
     ensures { result.now ≡ take N (drop from numbers.now) }
@@ -11,7 +11,7 @@ pub fn window<const N: usize>(numbers: &[i16], from: usize) -> &[i16; N]
     numbers[from..from + N].first_chunk().unwrap()
 }
 
-// The same, copied.
+/// The same, copied.
 pub fn stretch<const N: usize>(numbers: &[i16], from: usize) -> [i16; N]
     requires { from + N ≤ length numbers.now }
     ensures { result ≡ take N (drop from numbers.now) }
@@ -19,7 +19,7 @@ pub fn stretch<const N: usize>(numbers: &[i16], from: usize) -> [i16; N]
     *window(numbers, from)
 }
 
-// The numbers, and zeros after them.
+/// The numbers, and zeros after them.
 pub fn padded<const N: usize>(numbers: &[i16]) -> [i16; N]
     requires { length numbers.now ≤ N }
     ensures { result ≡ numbers.now ++ replicate (N - length numbers.now) (pos 0) }
@@ -29,7 +29,7 @@ pub fn padded<const N: usize>(numbers: &[i16]) -> [i16; N]
     room
 }
 
-// The numbers of `front`, and those of `back` after them.
+/// The numbers of `front`, and those of `back` after them.
 pub fn joined<const N: usize>(front: &[i16], back: &[i16]) -> [i16; N]
     requires { length front.now + length back.now ≡ N }
     ensures { result ≡ front.now ++ back.now }

@@ -1,7 +1,7 @@
 -- A subframe tells one quotient where `enhancement_divides` says so, and else none; the subframes of a frame tell as many together.
 use Rattle.std.proofs.Common.{◌≡◌, refl, sym, ap₂, ◌∙◌, Bool, true, false, cond, ◌&&◌, List, [], ◌∷◌, ℕ, min, ◌+◌, ◌<◌, arith, lit<, ℤ, pos, negsuc, ◌*ℤ◌, length, length-append, ◌≤ℤ◌, ◌<ℤ◌, w16}
 use mathlib.Core.List.{flat_map}
-use lib.Signed.{lt_z}
+use Rattle.std.specs.Int.Signed.{lt_z}
 use Rattle.lists.specs.Lists.{one_if, count}
 use Rattle.basicop.specs.Ops.{clamp, sub, shl}
 use Rattle.basicop.specs.Divided.{undivided}

@@ -1,8 +1,8 @@
 -- What a subframe and the core of a frame give: lengths, ranges, places, divisors.
 use Rattle.std.proofs.Common.{ℕ, zero, suc, ◌*◌, ◌≤◌, ◌≡◌, refl, sym, ap, ◌∙◌, subst, Bool, true, false, not, cond, List, [], ◌∷◌, map, arith, ltb-true, ltb-false, eq-eqb, ne_eqb, ltb, ℤ, pos, length, drop, get_or, ◌≤ℤ◌}
 use mathlib.Core.List.{flat_map}
-use lib.ListN.{length-map}
-use lib.Signed.{lt_z}
+use Rattle.std.proofs.Math.ListN.{length-map}
+use Rattle.std.specs.Int.Signed.{lt_z}
 use Rattle.lists.specs.Lists.{Every}
 use Rattle.lists.proofs.Entries.{length_pairwise, every_append, every_map, every_at}
 use Rattle.basicop.specs.Ops.{sub, shl, quartered}

@@ -1,6 +1,6 @@
--- The retries of a subframe are what document 01 says.
+-- The retries of a subframe are what specs/Retry.antt says.
 use Rattle.std.proofs.Common.{ℕ, zero, suc, ◌≡◌, refl, sym, ap, ◌∙◌, Bool, true, false, cond, List, [], ◌∷◌, ℤ, pos, negsuc, length, drop, ◌≤ℤ◌, w16, SFits}
-use lib.Signed.{le_z_yes}
+use Rattle.std.specs.Int.Signed.{le_z_yes}
 use Rattle.lists.specs.Lists.{at}
 use Rattle.lists.proofs.Entries.{each_append, each_drop}
 use Rattle.basicop.specs.Ops.{quartered}

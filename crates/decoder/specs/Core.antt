@@ -1,7 +1,7 @@
 -- The core of a frame: everything up to the synthesis samples (Decoder_amr of TS 26.073, good frame, MR74). It takes and gives the core's part
 -- of the state alone: the postfilter's memory is not in it.
-use Rattle.std.specs.Prelude.{ℕ, ℤ}
-use mathlib.Core.List.{List, [], ◌∷◌, map, flat_map}
+use Rattle.std.specs.Prelude.{List, [], ◌∷◌, map, ℕ, ℤ}
+use mathlib.Core.List.{flat_map}
 use Rattle.basicop.specs.Ops.{Quotient}
 use Rattle.basicop.specs.Divided.{Divided, undivided, after}
 use Rattle.spectral.specs.Lsp.{lsps_of}

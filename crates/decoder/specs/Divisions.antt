@@ -9,7 +9,7 @@ use Rattle.decoder.specs.Inputs.{SubframeInputs}
 use Rattle.decoder.specs.Enhance.{enhanced}
 use Rattle.decoder.specs.Core.{SubframeResult}
 
--- document 01: "Enhancement only above pitch gain 8192, then `match_energy`", of the feedback exc, with the past before the subframe
+-- enhanced, then `match_energy`, above a pitch gain of 8192 alone (docs/BENCH.md, "Excitation"): of the feedback exc, with the past before the subframe
 abbrev pub enhancement_divides : List ℤ → SubframeInputs → List ℤ → Bool
 enhancement_divides past p exc =
     let g = shl (sharpening p.pitch) (pos 1) in

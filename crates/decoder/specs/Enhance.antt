@@ -14,7 +14,7 @@ enhanced_at g pitch exc v = add exc (round (l_mult (mult v g) pitch))
 unfoldable pub enhanced : ℤ → ℤ → List ℤ → List ℤ → List ℤ
 enhanced g pitch exc v = pairwise (enhanced_at g pitch) exc v
 
--- document 01's first excitation: enhanced and brought to the feedback's energy where the new sharpening, doubled, is above 16384; else the feedback itself
+-- the first excitation: enhanced and brought to the feedback's energy where the new sharpening, doubled, is above 16384; else the feedback itself
 unfoldable pub first_excitation : List ℤ → ℤ → List ℤ → Divided (List ℤ)
 first_excitation v pitch exc =
     let g = shl (sharpening pitch) (pos 1) in

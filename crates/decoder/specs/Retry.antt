@@ -1,4 +1,4 @@
--- What document 01 says of retries ("What demand 3 measures by"), of one subframe: the definition's clamped steps against the whole numbers.
+-- What is said of retries (docs/BENCH.md, "Recurrence"), of one subframe: the definition's clamped steps against the whole numbers.
 -- The theorem is `retry` in proofs/Retry.antt: for every row, feedback, first excitation, history of ten numbers and past.
 use Rattle.std.specs.Prelude.{◌≡◌, true, false, List, ℕ, ℤ, pos, negsuc, ◌≤ℤ◌}
 use Rattle.std.specs.Int.{w16}

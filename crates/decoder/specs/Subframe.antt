@@ -1,4 +1,4 @@
--- The synthesis of a subframe with its retry: Decoder_amr of TS 26.073; document 01, "Synthesis output". By clamped steps.
+-- The synthesis of a subframe with its retry: Decoder_amr of TS 26.073; docs/BENCH.md, "Synthesis". By clamped steps.
 use Rattle.std.specs.Prelude.{Bool, true, false, not, if◌then◌else◌, List, ℕ, ◌==◌, ℤ}
 use Rattle.basicop.specs.Ops.{quartered}
 use Rattle.synthesis.specs.Synthesis.{samples, overflowed, overflowed_at}
@@ -20,7 +20,7 @@ pub record SynthesisResult : Type 0 where
   pub feedback : List ℤ
   pub past : List ℤ
 
--- document 02, 1/13: "A flag is then 'not 40'", of the place of a subframe's first pass
+-- a flag, by the place of the subframe's first pass: not 40
 abbrev pub flag_of : ℕ → Bool
 flag_of place = not (place == 40)
 

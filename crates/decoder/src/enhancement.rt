@@ -20,7 +20,7 @@ fn enhanced(feedback: [i16; 40], adaptive: [i16; 40], doubled: Q15, pitch: Q14) 
     array::from_fn(|i| enhanced_sample(feedback[i], adaptive[i], doubled, pitch))
 }
 
-// The first excitation of the synthesis.
+/// The first excitation of the synthesis.
 pub fn first_excitation(adaptive: [i16; 40], pitch: Q14, feedback: [i16; 40]) -> [i16; 40]
     ensures { result ≡ (first_excitation adaptive pitch.0 feedback).value }
 {

@@ -13,7 +13,7 @@ fn joined(a: [i16; 40], b: [i16; 40], c: [i16; 40], d: [i16; 40]) -> [i16; 160]
     *[a, b, c, d].as_flattened().as_array().unwrap()
 }
 
-// The core of a frame: four subframes, each from the state that the one before left.
+/// The core of a frame: four subframes, each from the state that the one before left.
 pub fn decode(core: Core, inputs: Inputs) -> CoreOutput
     ensures { result ≡ core_output (core_result core (inputs_of inputs)) }
 {

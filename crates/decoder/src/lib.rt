@@ -7,10 +7,12 @@ ghost use Rattle.spectral.proofs.Frequencies.{frequencies_prop};
 
 mod enhancement;
 mod frame;
+mod laws;
 mod subframe;
 
 use basicop::{Gains, Q13, Q14};
 pub use frame::decode;
+pub use laws::retries;
 use lpc::Rows;
 use pitch::PitchLag;
 

@@ -54,7 +54,7 @@ fn excite(past: [i16; 154], sharpening: Q14, p: Parameters) -> Excitations
     }
 }
 
-// The subframe step.
+/// The subframe step.
 #[tactic(auto, using(crate::proofs::Subframes::subframe_is))]
 pub fn decode_subframe(core: &Core, row: [i16; 11], p: Parameters) -> SubframeOutput
     ensures { result ≡ subframe_output (subframe_result core.now row (subframe_of p)) }

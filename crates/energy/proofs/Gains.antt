@@ -1,6 +1,6 @@
 -- The gain of agc and agc2: the ranges of the two operands of its division, and of the gain.
 use Rattle.std.proofs.Common.{◌≡◌, refl, ap, ◌∙◌, ℕ, zero, suc, min, ◌+◌, ◌*◌, ◌/◌, ◌^◌, ◌<◌, ◌≤◌, pow-suc, div-add-mod', mod-lt, div-lt_iff_lt-mul, le-div_iff_mul-le, arith, lit<, lit≤, ℤ, pos, negsuc, ◌≤ℤ◌, ◌<ℤ◌, w32, SFits}
-use lib.Signed.{le_z_yes, lt_z_yes, <ℤ-≤ℤ_trans}
+use Rattle.std.specs.Int.Signed.{le_z_yes, lt_z_yes, <ℤ-≤ℤ_trans}
 use Rattle.basicop.specs.Ops.{clamp, sub, l_shl, l_shr, round, div_s, norm_l}
 use Rattle.basicop.proofs.Ints.{arith_ℤ, le_in, ≤ℤ_trans}
 use Rattle.basicop.proofs.Norm.{Normalised, normalised}

@@ -1,5 +1,5 @@
 -- Tests: equality as a test, and casts and shifts of locals. Sums: the clamped sum is the exact one, held once; an energy's range. Gains: the operands of the division and the gain.
--- Divisors, Divisions, Results: what holds of all that agc2 and agc divide by, how often they divide, what they give. Values: values of document 01.
+-- Divisors, Divisions, Results: what holds of all that agc2 and agc divide by, how often they divide, what they give. Values: values to hold.
 pub mod Tests
 pub mod Sums
 pub mod Gains

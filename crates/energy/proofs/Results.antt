@@ -1,7 +1,7 @@
 -- What agc2 and agc give: as many samples, each of 16 bits, and a gain in range.
 use Rattle.std.proofs.Common.{◌≡◌, refl, sym, ap, Bool, true, false, List, [], ◌∷◌, ℕ, suc, ℤ, pos, length, ◌≤ℤ◌, ◌<ℤ◌, w16, w32, SFits}
-use lib.ListN.{length-map}
-use lib.Signed.{le_z, le_z_yes}
+use Rattle.std.proofs.Math.ListN.{length-map}
+use Rattle.std.specs.Int.Signed.{le_z, le_z_yes}
 use Rattle.lists.specs.Lists.{eq_z, at}
 use Rattle.lists.proofs.Entries.{length_tab, each_tab}
 use Rattle.basicop.specs.Ops.{asr, div_s, l_mult}

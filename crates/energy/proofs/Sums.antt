@@ -1,7 +1,7 @@
 -- energy_new: squares never fall, so that the sum clamped at each step is the exact one, held once.
 use Rattle.std.proofs.Common.{◌≡◌, refl, sym, ap, ◌∙◌, List, [], ◌∷◌, ℕ, suc, min, ◌+◌, ◌*◌, ◌≤◌, ◌<◌, mul-le-mul, le_refl, not-suc-le-zero, arith, ℤ, pos, negsuc, nat_abs, ◌*ℤ◌, length, ◌≤ℤ◌, ◌<ℤ◌, w32, SFits}
 use mathlib.Core.List.{foldl}
-use lib.Signed.{mag, nat_abs-le}
+use Rattle.std.specs.Int.Signed.{mag, nat_abs-le}
 use Rattle.lists.specs.Lists.{eq_z, at}
 use Rattle.basicop.specs.Ops.{clamp, asr, quartered, l_mult, l_mac}
 use Rattle.basicop.proofs.Ints.{arith_ℤ, le_in, ≤ℤ_antisym}

@@ -1,7 +1,7 @@
 -- Equality of integers as a test; what holds of both arms holds of a choice; a shift to the right, in the code.
 use Rattle.std.proofs.Common.{◌≡◌, refl, ap, subst, ℕ, zero, suc, ◌<◌, ◌^◌, Bool, true, false, cond, ne_eqb, T, ℤ, pos, negsuc, ◌≤ℤ◌, ◌<ℤ◌, SFits, to_z, of_z, to_z-of_z}
-use lib.Signed.{mag, shr_z}
-use mir.Syntax.{Width}
+use Rattle.std.specs.Int.Signed.{mag, shr_z}
+use Rattle.std.specs.Int.{Width}
 use mir.Val.{hbits}
 use Rattle.lists.specs.Lists.{eq_z}
 use Rattle.lists.proofs.Signed.{back}

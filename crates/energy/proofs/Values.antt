@@ -1,4 +1,4 @@
--- Values to hold, of the definitions: inverse roots, among them document 01's of 1 and of 2, and the energy of one sample among zeros.
+-- Values to hold, of the definitions: inverse roots, among them those of 1 and of 2, and the energy of one sample among zeros.
 use Rattle.std.proofs.Common.{◌≡◌, refl, [], ◌∷◌, map, pos, negsuc}
 use Rattle.lists.specs.Lists.{tab}
 use Rattle.basicop.specs.Ops.{asr, clamp, add, sub, l_add, l_sub, l_mult, l_shl, l_deposit_h, doublings, norm_l}

@@ -31,7 +31,7 @@ fn smoothed(samples: [i16; 40], gain: Q12, goal: Q12) -> Controlled
     }
 }
 
-// agc: the output, brought to the energy of the input by the smoothed gain.
+/// agc: the output, brought to the energy of the input by the smoothed gain.
 pub fn control_gain(control: GainControl, input: [i16; 40], output: [i16; 40]) -> Controlled
     ensures { result ≡ (agc control.previous_gain input output).value }
 {
@@ -45,7 +45,7 @@ pub fn control_gain(control: GainControl, input: [i16; 40], output: [i16; 40]) -
     smoothed(output, Q12(control.previous_gain), goal)
 }
 
-// The same with the smoothed gain lent by the caller and updated there.
+/// The same with the smoothed gain lent by the caller and updated there.
 pub fn process(control: &mut GainControl, input: [i16; 40], output: [i16; 40]) -> [i16; 40]
     ensures { together result control.new ≡ (agc control.old.previous_gain input output).value }
 {

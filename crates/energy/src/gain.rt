@@ -36,7 +36,7 @@ fn energy_ratio(output_energy: i32, input_energy: i32) -> i32
     scaled_ratio(div_s(gain_out, gain_in), sub(exponent, input_exponent))
 }
 
-// The gain that brings the output to the energy of the input, where the output's is not 0.
+/// The gain that brings the output to the energy of the input, where the output's is not 0.
 pub fn energy_gain(input: [i16; 40], output: [i16; 40]) -> Option<Q12>
     ensures { MatchOption result (energy output ≡ pos 0) (λ gain. (pos 0 <ℤ energy output) × (gain.0 ≡ (energy_gain (energy output) (energy input)).value)) }
 {
@@ -65,7 +65,7 @@ fn scaled(samples: [i16; 40], gain: Q12) -> [i16; 40]
     array::from_fn(|i| scale(samples[i], gain))
 }
 
-// agc2: the output, brought to the energy of the input.
+/// agc2: the output, brought to the energy of the input.
 pub fn match_energy(input: [i16; 40], output: [i16; 40]) -> [i16; 40]
     ensures { result ≡ (agc2 input output).value }
 {

@@ -12,13 +12,13 @@ pub use gain::match_energy;
 pub use root::inverse_sqrt;
 pub use sum::{energy, squares};
 
-// The smoothed gain (Q12), carried from subframe to subframe.
+/// The smoothed gain (Q12), carried from subframe to subframe.
 #[derive(Clone, Copy, Default)]
 pub struct GainControl {
     pub previous_gain: i16,
 }
 
-// The samples, and the gain control after them.
+/// The samples, and the gain control after them.
 #[derive(Drop)]
 pub struct Controlled {
     pub samples: [i16; 40],

@@ -12,8 +12,8 @@ const INVERSE_TABLE: [i16; 49] = [
     17674, 17515, 17361, 17211, 17064, 16921, 16782, 16646, 16514, 16384,
 ];
 
-// 1 / sqrt(value), value being the standard's L_x; zero or less gives 1073741823. Beside a line that sets a variable of the standard stands its name.
-// L_shr and shr by a constant are `>>`, L_deposit_h is `<< 16`, add of 1 is `+ 1`: none of these can clamp here.
+/// 1 / sqrt(value), value being the standard's L_x; zero or less gives 1073741823. Beside a line that sets a variable of the standard stands its name.
+/// L_shr and shr by a constant are `>>`, L_deposit_h is `<< 16`, add of 1 is `+ 1`: none of these can clamp here.
 pub fn inverse_sqrt(value: i32) -> i32
     ensures { result ≡ inverse_root value }
 {

@@ -11,7 +11,7 @@ fn doubled_square(sample: i16) -> u64
     (2 * (wide * wide)) as u64
 }
 
-// Squares never fall, so that the clamped sum is the exact one, held once. Every caller has fewer than 65536 samples, so that it fits.
+/// Squares never fall, so that the clamped sum is the exact one, held once. Every caller has fewer than 65536 samples, so that it fits.
 pub fn squares(samples: &[i16]) -> i32
     requires { length samples.now ≤ 65536 }
     ensures { result ≡ squares samples.now }
@@ -20,7 +20,7 @@ pub fn squares(samples: &[i16]) -> i32
     clamp32(sum as i64)
 }
 
-// energy_new
+/// energy_new
 pub fn energy(samples: [i16; 40]) -> i32
     ensures { result ≡ energy samples }
 {

@@ -1,6 +1,6 @@
 -- How many numbers sharpening and feedback have, and what the sharpening and a quartered number lie in.
 use Rattle.std.proofs.Common.{◌≡◌, refl, Bool, true, false, cond, List, [], ℤ, pos, negsuc, length, ◌≤ℤ◌, w16, SFits}
-use lib.Signed.{lt_z}
+use Rattle.std.specs.Int.Signed.{lt_z}
 use Rattle.lists.proofs.Entries.{length_pairwise}
 use Rattle.lists.proofs.Grow.{length_grow}
 use Rattle.basicop.specs.Ops.{asr, sub, shr}

@@ -15,7 +15,7 @@ sharpened code t sharp = iter (grow (sharpened_at code t (shl sharp (pos 1)))) 4
 unfoldable pub sharpening : ℤ → ℤ
 sharpening gain = if lt_z (pos 0) (sub gain (pos 13017)) then pos 13017 else gain
 
--- ---- document 01's feedback: the excitation that is fed back, from the prediction v by the pitch gain (Q14) and the code by the code gain (Q1):
+-- ---- feedback (docs/BENCH.md, "Excitation"): the excitation that is fed back, from the prediction v by the pitch gain (Q14) and the code by the code gain (Q1):
 -- two products, their sum, doubled, rounded
 abbrev pub feedback_at : ℤ → ℤ → ℤ → ℤ → ℤ
 feedback_at pitch gain v code = round (l_shl (l_mac (l_mult v pitch) code gain) (pos 1))

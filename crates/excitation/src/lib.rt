@@ -16,7 +16,7 @@ fn sharper(code: i16, before: i16, doubled: Q15) -> i16
     basicop::add(code, basicop::mult(before, doubled.0))
 }
 
-// The innovation with pitch sharpening, by the sharpening of the subframe before. A lag is at least 19.
+/// The innovation with pitch sharpening, by the sharpening of the subframe before. A lag is at least 19.
 pub fn sharpen(innovation: Q13, lag: usize, sharpening: Q14) -> Q13
     requires { (1 ≤ lag) × (lag ≤ 144) }
     ensures { result.0 ≡ sharpened innovation.0 (pos lag) sharpening.0 }
@@ -29,7 +29,7 @@ pub fn sharpen(innovation: Q13, lag: usize, sharpening: Q14) -> Q13
     Q13(code)
 }
 
-// The sharpening that the next subframe takes.
+/// The sharpening that the next subframe takes.
 pub fn next_sharpening(pitch: Q14) -> Q14
     ensures { result.0 ≡ sharpening pitch.0 }
 {
@@ -45,7 +45,7 @@ fn fed_back(adaptive: i16, innovation: i16, pitch: Q14, code: Q1) -> i16
     basicop::round(basicop::l_shl(sum, 1))
 }
 
-// The excitation that is fed back, before any quartering.
+/// The excitation that is fed back, before any quartering.
 pub fn feedback(adaptive: [i16; 40], innovation: Q13, pitch: Q14, code: Q1) -> [i16; 40]
     ensures { result ≡ feedback adaptive pitch.0 innovation.0 code.0 }
 {
@@ -53,7 +53,7 @@ pub fn feedback(adaptive: [i16; 40], innovation: Q13, pitch: Q14, code: Q1) -> [
     array::from_fn(|i| fed_back(adaptive[i], numbers[i], pitch, code))
 }
 
-// The past takes in a subframe, its oldest forty leaving.
+/// The past takes in a subframe, its oldest forty leaving.
 pub fn take_in(past: [i16; 154], feedback: [i16; 40]) -> [i16; 154]
     ensures { result ≡ taking past feedback }
 {

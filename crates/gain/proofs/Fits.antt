@@ -1,5 +1,5 @@
 -- Both gains of an index of the table have 16 bits.
-use Rattle.std.proofs.Common.{List, ℤ, pos, negsuc, ◌≤ℤ◌, arith, w16, w32, SFits}
+use Rattle.std.proofs.Common.{List, ℤ, pos, negsuc, ◌≤ℤ◌, w16, w32, SFits}
 use Rattle.basicop.specs.Ops.{l_shr}
 use Rattle.basicop.proofs.Fits.{l_mult_fits, l_shl_fits, extract_h_fits}
 use Rattle.basicop.proofs.Ints.{arith_ℤ, sfits_by}

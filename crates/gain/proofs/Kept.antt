@@ -1,14 +1,17 @@
--- A table by the two searches, as the code tests it, and what an accepted one is: `AcceptedTables`.
-use Rattle.std.proofs.Common.{◌≡◌, refl, ap, Bool, true, false, cond, not, ◌&&◌, List, [], ◌∷◌, ℕ, zero, suc, ◌≤◌, ◌<◌, add-one, arith, eqb, ltb, eqb→eq, ℤ, pos, ◌-ℤ◌, length, replicate, ◌≤ℤ◌, eq-eqb, ne_eqb, ltb-true, ltb-false}
+-- A table by the two searches, as the code tests it, and what an accepted one is; and no other is turned back.
+use Rattle.std.proofs.Common.{◌≡◌, refl, ap, Bool, true, false, cond, not, ◌&&◌, List, [], ◌∷◌, ℕ, zero, suc, ◌≤◌, ◌<◌, add-one, arith, eqb, ltb, eqb→eq, ℤ, pos, ◌+ℤ◌, ◌-ℤ◌, length, replicate, ◌≤ℤ◌, eq-eqb, ne_eqb, ltb-true, ltb-false}
 use borrow.Author.Differences.{sum_is_lem}
 use Rattle.std.specs.Prelude.{Some, None, is_some}
 use Rattle.lists.specs.Lists.{at}
 use Rattle.lists.proofs.Table.{both_pass}
 use Rattle.basicop.proofs.Ints.{arith_ℤ, sub_ℤ_is}
 use Rattle.basicop.proofs.Tests.{no_less}
-use Rattle.outcome.specs.Checks.{within, apart, found, first_outside, first_close}
-use Rattle.outcome.proofs.Gaps.{in_gaps}
-use Rattle.gain.specs.Checks.{is_table, TableKept, AcceptedTables, KeptAccepted}
+use Rattle.outcome.specs.Checks.{within, apart, found, first_outside, first_close, first_met}
+use Rattle.std.proofs.lemmas.List.{get_or-replicate}
+use Rattle.outcome.proofs.Ranges.{none_outside}
+use Rattle.outcome.proofs.Gaps.{in_gaps, none_close}
+use Rattle.outcome.specs.Outcome.{is_accepted}
+use Rattle.gain.specs.Checks.{is_table, table_checks, TableKept}
 use Rattle.gain.proofs.Groups.{in_limit, tables_accept}
 
 -- ---- what it is
@@ -27,7 +30,7 @@ table_kept table e =
       rises = λ k h. rw (add-one k) (omega (arith_ℤ, in_gaps (pos 0) (pos 0) table (suc k) (omega arith), sum_is_lem (at table k) (pos 0)));
     }
 
-pub accepted_tables : AcceptedTables
+pub accepted_tables : (logs pows : List ℤ) → is_accepted (first_met (table_checks logs pows)) ≡ true → TableKept logs × TableKept pows
 accepted_tables logs pows h =
     let t = tables_accept logs pows h in
     (table_kept logs t.0, table_kept pows t.1)
@@ -65,25 +68,19 @@ unfolding is_table
 no_table numbers h = rw (ne_eqb (length numbers) 33 h)
 
 -- ---- and nothing else: the searches find none where each number lies in its range, and none below the one before it
-none_outside : (n : ℕ) (limit : ℤ) (xs : List ℤ) → length xs ≡ n → ((k : ℕ) → k < n → (pos 0 ≤ℤ at xs k) × (at xs k ≤ℤ limit)) → first_outside xs (replicate n limit) ≡ n
-unfolding first_outside
-none_outside zero limit [] e r = refl
-none_outside zero limit (x ∷ xs) e r = absurd (omega (arith, e))
-none_outside (suc n) limit [] e r = absurd (omega (arith, e))
-none_outside (suc n) limit (x ∷ xs) e r =
-    rw (no_less x (pos 0) (r 0 (omega arith)).0, no_less limit x (r 0 (omega arith)).1) (ap suc (none_outside n limit xs (omega (arith, e)) (λ k l. r (suc k) (omega (arith, l)))))
-
-none_close : (before : ℤ) (xs : List ℤ) → ((k : ℕ) → k < length xs → at (before ∷ xs) k ≤ℤ at xs k) → first_close (pos 0) before xs ≡ length xs
-unfolding first_close
-none_close before [] r = refl
-none_close before (x ∷ xs) r =
-    rw (no_less (x -ℤ before) (pos 0) (omega (arith_ℤ, r 0 (omega arith), sub_ℤ_is x before))) (ap suc (none_close x xs (λ k l. r (suc k) (omega (arith, l)))))
-
-pub kept_accepted : KeptAccepted
+pub kept_accepted : (table : List ℤ) → TableKept table → is_table table ≡ true
 unfolding is_table
 kept_accepted table t =
-    rw (none_outside 33 (pos 32767) table t.count t.range, none_close (pos 0) table above, t.count)
+    rw (none_outside table (replicate 33 (pos 32767)) t.count inside, none_close (pos 0) (pos 0) table above, t.count)
   where
-    above : (k : ℕ) → k < length table → at (pos 0 ∷ table) k ≤ℤ at table k
+    inside : (k : ℕ) → k < length table → (pos 0 ≤ℤ at table k) × (at table k ≤ℤ at (replicate 33 (pos 32767)) k)
+    inside k l =
+        let b : k < 33 = omega (arith, l, t.count) in
+        let r = t.range k b in
+        (r.0, rw (get_or-replicate 33 k (pos 32767) (pos 0) b) r.1)
+
+    above : (k : ℕ) → k < length table → (at (pos 0 ∷ table) k +ℤ pos 0) ≤ℤ at table k
     above zero l = (t.range 0 (omega arith)).0
-    above (suc k) l = rw (← add-one k) (t.rises k (omega (arith, l, t.count)))
+    above (suc k) l =
+        let rises : at table k ≤ℤ at table (suc k) = rw (← add-one k) (t.rises k (omega (arith, l, t.count))) in
+        omega (arith_ℤ, rises, sum_is_lem (at table k) (pos 0))

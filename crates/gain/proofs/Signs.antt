@@ -1,5 +1,5 @@
--- Neither gain is negative: `NeverNegative`, of any integers as innovation and energies.
-use Rattle.std.proofs.Common.{List, [], ◌∷◌, suc, arith, ℤ, pos, negsuc, ◌≤ℤ◌, w16, w32, SFits}
+-- Neither gain is negative, of any integers as innovation and energies, and of any lists as tables: `never_negative`.
+use Rattle.std.proofs.Common.{◌≡◌, refl, Bool, true, false, List, [], ◌∷◌, suc, arith, ℤ, pos, negsuc, ◌≤ℤ◌, w16, w32, SFits}
 use lib.Signed.{le_z_yes}
 use Rattle.basicop.specs.Ops.{asr, sub, l_mult, l_shr, extract_h}
 use Rattle.basicop.proofs.Ints.{arith_ℤ, le_in, ≤ℤ_trans, sfits_by}
@@ -8,6 +8,8 @@ use Rattle.basicop.proofs.Fits.{l_mult_fits}
 use Rattle.basicop.proofs.Shift.{asr_same}
 use Rattle.basicop.proofs.Wrap.{wrap_id}
 use Rattle.basicop.proofs.Split.{extract_is, low_small}
+use Rattle.outcome.specs.Outcome.{is_accepted}
+use Rattle.outcome.specs.Checks.{first_met}
 use Rattle.outcome.proofs.Checks.{both_accept}
 use Rattle.logarithm.specs.declared.Logarithm.{Logarithm}
 use Rattle.logarithm.specs.Pow2.{pow2}
@@ -15,7 +17,7 @@ use Rattle.logarithm.proofs.Powers.{Entries, power_in}
 use Rattle.gain_table.proofs.Ranges.{row_ranges}
 use Rattle.gain.specs.Gain.{predicted_energy, predicted_gain, code_gain, decoded_gains}
 use Rattle.gain.specs.Checks.{TableKept, table_checks, index_checks}
-use Rattle.gain.specs.Call.{gain_call, NeverNegative}
+use Rattle.gain.specs.Call.{decode_checks, gain_call}
 use Rattle.gain.proofs.Groups.{index_accept}
 use Rattle.gain.proofs.Kept.{accepted_tables}
 
@@ -61,9 +63,14 @@ code_from logs pows (pos index) innovation energies t h l =
     code_gain_from pows t.range _ (predicted_gain logs innovation energies) (≤ℤ_trans (le_z_yes tt) r.correction.0) f.0 f.1
 code_from logs pows (negsuc n) innovation energies t h l = absurd h.le
 
-pub never_negative : NeverNegative
+-- and of a call: refused, its gains are 0
+pub never_negative : (logs pows : List ℤ) (index : ℤ) (innovation energies : List ℤ) → pos 0 ≤ℤ (gain_call logs pows index innovation energies).gains.code.0
 unfolding gain_call
-never_negative logs pows index innovation energies h =
-    let b = both_accept (table_checks logs pows) (index_checks 1 (index ∷ [])) h in
-    let i = index_accept 1 (index ∷ []) b.1 0 (omega arith) in
-    rw h (omega (arith_ℤ, code_from logs pows index innovation energies (accepted_tables logs pows b.0).1 i.0 i.1))
+never_negative logs pows index innovation energies = go (is_accepted (first_met (decode_checks logs pows index))) refl
+  where
+    go : (t : Bool) → is_accepted (first_met (decode_checks logs pows index)) ≡ t → pos 0 ≤ℤ (gain_call logs pows index innovation energies).gains.code.0
+    go true h =
+        let b = both_accept (table_checks logs pows) (index_checks 1 (index ∷ [])) h in
+        let i = index_accept 1 (index ∷ []) b.1 0 (omega arith) in
+        rw h (omega (arith_ℤ, code_from logs pows index innovation energies (accepted_tables logs pows b.0).1 i.0 i.1))
+    go false h = rw h (le_z_yes tt)

@@ -1,5 +1,5 @@
--- The call of one index (GainDecoder::decode): document 02, 5/13.
-use Rattle.std.specs.Prelude.{◌≡◌, true, if◌then◌else◌, List, [], ◌∷◌, ◌++◌, ℤ, pos, replicate, ◌≤ℤ◌}
+-- The call of one index (GainDecoder::decode): docs/BENCH.md, "Gains from an index".
+use Rattle.std.specs.Prelude.{if◌then◌else◌, List, [], ◌∷◌, ◌++◌, ℤ, pos, replicate}
 use Rattle.lists.specs.Lists.{minus}
 use Rattle.outcome.specs.Outcome.{is_accepted}
 use Rattle.outcome.specs.Checks.{Check, first_met}
@@ -25,11 +25,3 @@ gain_call logs pows index innovation energies =
     let o = first_met (decode_checks logs pows index) in
     let d = if is_accepted o then decoded_gains logs pows index innovation energies else no_gains energies in
     record { outcome = o; gains = d.gains; gain_decoder = d.gain_decoder }
-
--- ---- "from it the code gain is never negative": of any index, innovation and energies, where the tables are accepted. The theorem is `never_negative` in
--- proofs/Signs.antt
-abbrev pub NeverNegative : Type 0
-NeverNegative =
-    (logs pows : List ℤ) (index : ℤ) (innovation energies : List ℤ)
-    → is_accepted (first_met (decode_checks logs pows index)) ≡ true
-    → pos 0 ≤ℤ (gain_call logs pows index innovation energies).gains.code.0

@@ -1,9 +1,8 @@
--- What turns back the tables and the indices of gains: document 02, 5/13, 7 and 8.
-use Rattle.std.specs.Prelude.{◌≡◌, Bool, true, not, ◌&&◌, List, [], ◌∷◌, ℕ, ◌+◌, ◌<◌, ◌==◌, ℤ, pos, length, replicate, ◌≤ℤ◌}
+-- What turns back the tables and the indices of gains, 7 and 8: docs/BENCH.md, "Gains from an index".
+use Rattle.std.specs.Prelude.{◌≡◌, Bool, not, ◌&&◌, List, [], ◌∷◌, ℕ, ◌+◌, ◌<◌, ◌==◌, ℤ, pos, length, replicate, ◌≤ℤ◌}
 use Rattle.lists.specs.Lists.{at}
 use Rattle.outcome.specs.declared.Refusal.TheVariants.{Table, GainIndex}
-use Rattle.outcome.specs.Outcome.{is_accepted}
-use Rattle.outcome.specs.Checks.{Check, check, place_check, first_met, first_outside, first_close}
+use Rattle.outcome.specs.Checks.{Check, check, place_check, first_outside, first_close}
 
 -- 33 numbers that lie in 0..=32767 and never fall: none lies less than 0 above the one before it. Equal neighbours are fine
 unfoldable pub is_table : List ℤ → Bool
@@ -19,15 +18,8 @@ table_checks logs pows = check (not (is_table logs)) (Table 0) ∷ check (not (i
 abbrev pub index_checks : ℕ → List ℤ → List Check
 index_checks count indices = place_check GainIndex (first_outside indices (replicate count (pos 127))) count ∷ []
 
--- ---- what an accepted table is, without the searches; and no other table is turned back. The theorems are `accepted_tables` and `kept_accepted` in
--- proofs/Kept.antt
+-- ---- a table without the searches: `check_tables` accepts exactly where both lists are one
 pub record TableKept (table : List ℤ) : Type 0 where
   pub count : length table ≡ 33
   pub range : (k : ℕ) → k < 33 → (pos 0 ≤ℤ at table k) × (at table k ≤ℤ pos 32767)
   pub rises : (k : ℕ) → k < 32 → at table k ≤ℤ at table (k + 1)
-
-abbrev pub AcceptedTables : Type 0
-AcceptedTables = (logs pows : List ℤ) → is_accepted (first_met (table_checks logs pows)) ≡ true → TableKept logs × TableKept pows
-
-abbrev pub KeptAccepted : Type 0
-KeptAccepted = (table : List ℤ) → TableKept table → is_table table ≡ true

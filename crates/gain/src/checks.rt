@@ -1,7 +1,7 @@
 // What turns back lent tables, 7, and indices of gains, 8.
-ghost use Rattle.std.specs.Prelude.{◌≡◌, MatchOption, true, false, List, [], ◌∷◌};
+ghost use Rattle.std.specs.Prelude.{◌≡◌, ◌↔◌, MatchOption, IsOk, true, false, List, [], ◌∷◌};
 ghost use Rattle.outcome.specs.Checks.{first_met, Checked};
-ghost use Rattle.gain.specs.Checks.{is_table, table_checks, index_checks};
+ghost use Rattle.gain.specs.Checks.{is_table, table_checks, index_checks, TableKept};
 ghost use Rattle.gain.specs.Call.{decode_checks};
 
 use outcome::{Outcome, Refusal};
@@ -29,7 +29,8 @@ fn as_table(numbers: &[i16]) -> Option<&[i16; 33]>
 
 // 7: a lent table that is none. Place 0 is the logarithm's, 1 the power's.
 pub fn check_tables<'a>(logs: &'a [i16], pows: &'a [i16]) -> Result<Tables<'a>, Refusal>
-    ensures { Checked result (first_met (table_checks logs.now pows.now)) (λ tables. (tables.logs.now ≡ logs.now) × (tables.pows.now ≡ pows.now)) }
+    ensures value { Checked result (first_met (table_checks logs.now pows.now)) (λ tables. (tables.logs.now ≡ logs.now) × (tables.pows.now ≡ pows.now)) }
+    ensures accepted { IsOk result ↔ (TableKept logs.now × TableKept pows.now) }
 {
     let Some(logs) = as_table(logs) else {
         return Err(Refusal::Table(0));

@@ -1,7 +1,7 @@
 // The gains of a subframe from their index: gc_pred, Dec_gain, gc_pred_update and gc_pred_average_limited of TS 26.073.
 #![tactic(auto)]
 
-ghost use Rattle.std.specs.Prelude.{◌≡◌, ◌<◌, pos};
+ghost use Rattle.std.specs.Prelude.{◌≡◌, ◌<◌, pos, ◌≤ℤ◌};
 ghost use Rattle.gain.specs.Gain.{entered, average_energy, concealed_energies, decoded_gains};
 ghost use Rattle.gain.specs.Call.{opening_energies, gain_call};
 
@@ -100,7 +100,8 @@ impl GainDecoder {
         log_table: &[i16],
         pow_table: &[i16],
     ) -> GainAnswer
-        ensures { result ≡ gain_call log_table.now pow_table.now index innovation.0 self.energies }
+        ensures value { result ≡ gain_call log_table.now pow_table.now index innovation.0 self.energies }
+        ensures code { pos 0 ≤ℤ result.gains.code.0 }
     {
         match check_decode(index, log_table, pow_table) {
             Ok(tables) => {

@@ -1,4 +1,5 @@
--- Gains that are not negative stay so, and concealed gains lie in 0..=32766: `concealed_kept`, `concealed_in_range`, `good_kept`.
+-- Gains that are not negative stay so, in fives of any length and at any stage, and concealed gains lie in 0..=32766: `concealed_kept`, `concealed_in_range`,
+-- `good_kept`.
 use Rattle.std.proofs.Common.{◌≡◌, refl, Bool, true, false, cond, List, [], ◌∷◌, ℕ, ◌*◌, ◌≤◌, mul-le-mul, ℤ, pos, negsuc, drop, ◌≤ℤ◌}
 use lib.Signed.{lt_z, le_z_yes}
 use Rattle.lists.specs.Lists.{at, Every}
@@ -11,7 +12,7 @@ use Rattle.basicop.specs.declared.Gains.{Gains}
 use Rattle.gain_concealment.specs.declared.GainConcealment.{GainConcealment}
 use Rattle.gain_concealment.specs.Median.{inserted, sorted, median}
 use Rattle.gain_concealment.specs.Concealment.{pdown, cdown, held_to, concealed_gain, taking_in, updated, concealed_gains, held_pair, good_gains}
-use Rattle.gain_concealment.specs.Laws.{NotNegative, Kept, ConcealedInRange, Used, GoodKept, ConcealedKept}
+use Rattle.gain_concealment.specs.Laws.{NotNegative, Kept, Concealed, Used}
 use Rattle.gain_concealment.proofs.Sorting.{by_place}
 use Rattle.gain_concealment.proofs.Factors.{Factor, any_entry, pdown_factor, cdown_factor, staged}
 
@@ -90,7 +91,7 @@ concealed_most table f history past stage p m h =
     let s = staged table f stage in
     mult_most _ _ (before_scaling past history p h) (omega (arith_ℤ, held_most past (median history), m)) s.from s.to
 
-pub concealed_kept : ConcealedKept
+pub concealed_kept : (stage : ℤ) (c : GainConcealment) → Kept c → Used (concealed_gains stage c)
 unfolding concealed_gains
 concealed_kept stage c k =
     let gains : NotNegative (concealed_gains stage c).gains = record {
@@ -99,7 +100,7 @@ concealed_kept stage c k =
     } in
     record { gains = gains; next = updated_kept _ c gains k }
 
-pub concealed_in_range : ConcealedInRange
+pub concealed_in_range : (stage : ℤ) (c : GainConcealment) → Kept c → c.past.pitch.0 ≤ℤ pos 32767 → c.past.code.0 ≤ℤ pos 32767 → Concealed (concealed_gains stage c)
 unfolding concealed_gains
 concealed_in_range stage c k p q =
     let u = concealed_kept stage c k in
@@ -117,7 +118,7 @@ good_next gains c n k =
     record { gains = n; next = record { pitch_history = u.pitch_history; code_history = u.code_history; past = u.past; last_good = n } }
 
 -- held to the last good ones, and from there on the same
-pub good_kept : GoodKept
+pub good_kept : (erased : Bool) (gains : Gains) (c : GainConcealment) → NotNegative gains → Kept c → Used (good_gains erased gains c)
 unfolding good_gains
 good_kept false gains c n k = good_next gains c n k
 good_kept true gains c n k =

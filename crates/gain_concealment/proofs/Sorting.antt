@@ -8,8 +8,8 @@ use lib.Signed.{lt_z}
 use Rattle.lists.specs.Lists.{at}
 use Rattle.basicop.proofs.Ints.{arith_ℤ, ≤ℤ_antisym, <ℤ-≤ℤ}
 use Rattle.basicop.proofs.Tests.{less_yes, less_no, yes_less, no_less}
-use Rattle.gain_concealment.specs.Median.{inserted, sorted}
-use Rattle.gain_concealment.specs.Laws.{SortedKept, MedianOfAny}
+use Rattle.gain_concealment.specs.Median.{inserted, sorted, median}
+use Rattle.gain_concealment.specs.Laws.{InOrder}
 
 -- ---- one number put in its place, by the test of the first
 module _ (x y : ℤ) (ys : List ℤ) where
@@ -128,8 +128,8 @@ sorted_any : (xs ys : List ℤ) → Perm xs ys → sorted xs ≡ sorted ys
 sorted_any xs ys p = ∥∥₁_elim p (is_set ℤ_set (sorted xs) (sorted ys)) sorted_by
 
 -- ---- the theorems
-pub sorted_kept : SortedKept
+pub sorted_kept : (xs : List ℤ) → InOrder xs
 sorted_kept xs = record { same = perm_sorted xs; rises = rises (sorted xs) (rising_sorted xs) }
 
-pub median_of_any : MedianOfAny
+pub median_of_any : (xs ys : List ℤ) → Perm xs ys → median xs ≡ median ys
 median_of_any xs ys p = rw (sorted_any xs ys p)

@@ -1,5 +1,5 @@
 -- ec_gain_pitch and ec_gain_code of TS 26.073, and ec_gain_pitch_update and ec_gain_code_update (TS 26.091): the gains of erased frames, and of a good frame
--- after one. pbuf and gbuf are the two fives, past_gain_pit and past_gain_code the past gains, prev_gp and prev_gc the last good ones. Document 02, 7/13.
+-- after one. pbuf and gbuf are the two fives, past_gain_pit and past_gain_code the past gains, prev_gp and prev_gc the last good ones: docs/BENCH.md, "Erased frames".
 use Rattle.std.specs.Prelude.{Bool, if◌then◌else◌, List, [], ◌∷◌, ◌++◌, ℤ, pos, drop}
 use Rattle.std.specs.Int.Signed.{lt_z}
 use Rattle.lists.specs.Lists.{entry}

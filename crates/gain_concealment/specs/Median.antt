@@ -1,4 +1,4 @@
--- gmed_n of TS 26.073: of five numbers the third in order. The theorems are `sorted_kept` and `median_of_any`, in proofs/Sorting.antt.
+-- gmed_n of TS 26.073: of five numbers the third in order.
 use Rattle.std.specs.Prelude.{if◌then◌else◌, List, [], ◌∷◌, ℤ}
 use Rattle.std.specs.Int.Signed.{lt_z}
 use Rattle.lists.specs.Lists.{at}
@@ -13,6 +13,6 @@ unfoldable pub sorted : List ℤ → List ℤ
 sorted [] = []
 sorted (x ∷ xs) = inserted x (sorted xs)
 
--- "The median is the third of the five in order"
+-- the third in order
 abbrev pub median : List ℤ → ℤ
 median xs = at (sorted xs) 2

@@ -1,9 +1,11 @@
 // The gains of erased frames, and of a good frame after one: ec_gain_pitch and ec_gain_code of TS 26.073, and their updates.
 #![tactic(auto)]
 
-ghost use Rattle.std.specs.Prelude.{◌≡◌, ◌<◌, pos};
+ghost use mathlib.Core.List.{Perm};
+ghost use Rattle.std.specs.Prelude.{◌≡◌, List, ◌<◌, ℤ, pos};
 ghost use Rattle.gain_concealment.specs.Median.{median};
 ghost use Rattle.gain_concealment.specs.Concealment.{concealed_gains, held_pair, updated, good_gains};
+ghost use Rattle.gain_concealment.specs.Laws.{InOrder, NotNegative, Kept, Concealed, Used};
 
 mod tables;
 
@@ -29,9 +31,11 @@ pub struct UsedGains {
     pub next: GainConcealment,
 }
 
-// The third of five numbers in order.
-fn median(numbers: [i16; 5]) -> i16
-    ensures { result ≡ median numbers }
+/// The third of five numbers in order: the same of any arrangement of them.
+pub fn median(numbers: [i16; 5]) -> i16
+    ensures value { result ≡ median numbers }
+    ensures in_order { InOrder numbers }
+    ensures any_order { (others : List ℤ) → Perm numbers others → median others ≡ result }
 {
     let [a, b, c, d, e] = numbers;
     // low and high, in either order: the middle two of the first four. The third of all is the middle one of these and e.
@@ -62,7 +66,8 @@ impl GainConcealment {
     // A subframe of an erased frame: medians held to the past gains, then scaled by the attenuation stage.
     pub fn conceal(self, stage: usize) -> UsedGains
         requires { stage < 7 }
-        ensures { result ≡ concealed_gains (pos stage) self }
+        ensures value { result ≡ concealed_gains (pos stage) self }
+        ensures range { Kept self → Concealed result }
     {
         let pitch = median(self.pitch_history).min(self.past.pitch.0);
         let code = median(self.code_history).min(self.past.code.0);
@@ -78,7 +83,8 @@ impl GainConcealment {
 
     // A subframe of a good frame: after an erased frame each of its gains is at most that of the last good subframe; then they become those.
     pub fn update_good(self, gains: Gains, erased: bool) -> UsedGains
-        ensures { result ≡ good_gains erased gains self }
+        ensures value { result ≡ good_gains erased gains self }
+        ensures kept { NotNegative gains → Kept self → Used result }
     {
         let held = if erased {
             hold(gains, self.last_good)

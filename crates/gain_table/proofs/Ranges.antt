@@ -1,11 +1,11 @@
--- The ranges of the table, by one test of every row: `RowRanges`.
+-- The ranges of the table, by one test of every row.
 use Rattle.std.proofs.Common.{Bool, ◌&&◌, List, [], ℕ, ◌<◌, arith, T, eqb, eqb→eq, ℤ, pos, length, ◌≤ℤ◌}
 use lib.Signed.{le_z, le_z_yes}
 use Rattle.std.proofs.lemmas.Int.{ints}
 use Rattle.lists.specs.Lists.{minus, at}
 use Rattle.lists.proofs.Table.{both_pass, each_entry}
 use Rattle.gain_table.specs.Rows.{gain_table, gain_row}
-use Rattle.gain_table.specs.Ranges.{RowRanges}
+use Rattle.gain_table.specs.Ranges.{RowRange}
 
 between : ℤ → ℤ → ℤ → Bool
 between from to x = le_z from x && le_z x to
@@ -22,7 +22,7 @@ tested : (index : ℕ) → index < 128 → T (ruled index (gain_row (pos index))
 unfolding gain_row gain_table ruled between
 tested index h = each_entry ruled gain_table [] tt index h
 
-pub row_ranges : RowRanges
+pub row_ranges : (index : ℕ) → index < 128 → RowRange (gain_row (pos index))
 unfolding ruled
 row_ranges index h =
     let row = gain_row (pos index) in

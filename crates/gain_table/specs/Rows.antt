@@ -1,5 +1,5 @@
--- table_gain_highrates of TS 26.073 at MR74 (document 02, 5/13, "taken from `gain.rs`"): 128 rows of pitch gain (Q14), correction of the predicted gain
--- (Q12) and energy (Q10). The standard's fourth column is another mode's.
+-- table_gain_highrates of TS 26.073 at MR74 (docs/BENCH.md, "Gains from an index"): 128 rows of pitch gain (Q14), correction of the predicted gain (Q12) and
+-- energy (Q10). In the standard a row has a fourth number, the third of the four, which is another mode's: 577 662 -2692 -16214 is 577 662 -16214 here.
 use Rattle.std.specs.Prelude.{List, [], ◌∷◌, ℤ, pos, negsuc, slice_index_or}
 use Rattle.lists.specs.Lists.{minus}
 

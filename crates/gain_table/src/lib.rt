@@ -3,6 +3,7 @@
 
 ghost use Rattle.std.specs.Prelude.{◌≡◌, ◌<◌, pos};
 ghost use Rattle.gain_table.specs.Rows.{gain_row};
+ghost use Rattle.gain_table.specs.Ranges.{RowRange};
 
 // A row is pitch gain (Q14), correction of the predicted gain (Q12) and energy (Q10).
 const GAIN_TABLE: [[i16; 3]; 128] = [
@@ -140,7 +141,8 @@ const GAIN_TABLE: [[i16; 3]; 128] = [
 #[tactic(auto, unfolding(crate::specs::Rows::gain_row, crate::specs::Rows::gain_table))]
 pub fn gain_row(index: usize) -> [i16; 3]
     requires { index < 128 }
-    ensures { result ≡ gain_row (pos index) }
+    ensures value { result ≡ gain_row (pos index) }
+    ensures range { RowRange result }
 {
     GAIN_TABLE[index]
 }

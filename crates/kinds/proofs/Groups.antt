@@ -1,8 +1,9 @@
 -- The groups of checks of a frame call: what each has shown where it accepts, and the places of its refusals.
-use Rattle.std.proofs.Common.{ℕ, zero, suc, ◌+◌, ◌≤◌, ◌<◌, ◌≡◌, true, List, ◌∷◌, ◌++◌, add-one, arith, ℤ, pos, ◌+ℤ◌, length, take, drop, get_or-take, ◌≤ℤ◌, eqb-true, ltb-false}
+use Rattle.std.proofs.Common.{ℕ, zero, suc, ◌+◌, ◌≤◌, ◌<◌, ◌≡◌, true, List, ◌∷◌, ◌++◌, add-one, arith, ℤ, pos, ◌+ℤ◌, length, take, drop, replicate, get_or-take, ◌≤ℤ◌, eqb-true, ltb-false}
 use lib.Signed.{le_z_yes, lt_z}
 use borrow.Author.Tests.{not-false}
 use Rattle.std.proofs.lemmas.Bool.{or_parts}
+use Rattle.std.proofs.lemmas.List.{get_or-replicate}
 use Rattle.lists.specs.Lists.{at}
 use Rattle.lists.proofs.Entries.{stretch_at}
 use Rattle.basicop.proofs.Ints.{≤ℤ_trans}
@@ -23,7 +24,7 @@ use Rattle.gain.proofs.Groups.{index_accept, tables_placed, indices_placed}
 use Rattle.kinds.specs.Sheet.{lsfs_of, gains_of, gain_indices_of, stage_of}
 use Rattle.kinds.specs.Checks.{length_checks, lsf_checks, pitch_limits, pitch_checks, gain_checks, stage_checks}
 use Rattle.kinds.specs.Kind.{SheetKind, FrameSheet, IndexSheet, ErasedSheet, kind_of, call_checks, call_outcome}
-use Rattle.kinds.specs.Accepted.{In, GapsKept, PitchIndices, GainsKept, GainIndices, OwnKept}
+use Rattle.kinds.specs.Accepted.{In, LsfsKept, GapsKept, PitchIndices, GainsKept, GainIndices, OwnKept}
 
 -- ---- what a group has shown
 pub lengths_accept : (count numbers room : ℕ) → is_accepted (first_met (length_checks count numbers room)) ≡ true → (numbers ≡ count) × (room ≡ 160)
@@ -44,6 +45,11 @@ module _ (sheet : List ℤ) where
       in_range_all 10 (pos 16384) (lsfs_of sheet) ten (ltb-false _ 10 (none_met (lsf_checks sheet) h).0)
 
   module _ (h : is_accepted (first_met (lsf_checks sheet)) ≡ true) where
+    pub lsfs_range : LsfsKept sheet
+    lsfs_range k l =
+        rw (get_or-take 10 sheet k (pos 0) l, get_or-replicate 10 k (pos 16384) (pos 0) l)
+        at (in_ranges (lsfs_of sheet) (replicate 10 (pos 16384)) k (omega (arith, ltb-false _ 10 (none_met (lsf_checks sheet) h).0)))
+
     -- 0 before the first
     gap_at : (k : ℕ) → k < 10 → (at (pos 0 ∷ lsfs_of sheet) k +ℤ pos 205) ≤ℤ at (lsfs_of sheet) k
     gap_at k l =

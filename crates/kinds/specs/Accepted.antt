@@ -5,7 +5,7 @@ use Rattle.lists.specs.Lists.{at}
 use Rattle.outcome.specs.Outcome.{is_accepted}
 use Rattle.gain.specs.Checks.{TableKept}
 use Rattle.state.specs.declared.State.{State}
-use Rattle.state.proofs.Checks.{InRange}
+use Rattle.state.specs.State.{InRange}
 use Rattle.kinds.specs.Sheet.{stage_of}
 use Rattle.kinds.specs.Kind.{SheetKind, FrameSheet, IndexSheet, ErasedSheet, kind_of, call_outcome}
 

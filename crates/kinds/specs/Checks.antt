@@ -1,13 +1,13 @@
 -- What turns a frame call back (docs/BENCH.md, "Refusals"): groups of checks of a sheet's numbers, which the kinds have in their own order (Kind.antt).
 use Rattle.std.specs.Prelude.{not, ◌||◌, List, [], ◌∷◌, ℕ, ◌==◌, ℤ, pos, replicate}
 use Rattle.std.specs.Int.Signed.{lt_z}
-use Rattle.outcome.specs.declared.Refusal.TheVariants.{SheetLength, Lsf, PitchIndex, Gain, OutputLength, LsfGap, Stage}
-use Rattle.outcome.specs.Checks.{Check, check, place_check, first_outside, first_close}
+use Rattle.outcome.specs.declared.Refusal.TheVariants.{SheetLength, Lsf, PitchIndex, Gain, LsfGap, Stage}
+use Rattle.outcome.specs.Checks.{Check, check, place_check, room_check, first_outside, first_close}
 use Rattle.kinds.specs.Sheet.{lsfs_of, pitch_indices_of, gains_of, stage_of}
 
 -- 1: another count of numbers than the sheet's; 5: no room for 160 samples
 abbrev pub length_checks : ℕ → ℕ → ℕ → List Check
-length_checks count numbers room = check (not (numbers == count)) SheetLength ∷ check (not (room == 160)) OutputLength ∷ []
+length_checks count numbers room = check (not (numbers == count)) SheetLength ∷ room_check room
 
 -- LSF_GAP of Reorder_lsf
 abbrev pub lsf_gap : ℤ

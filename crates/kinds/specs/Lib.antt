@@ -5,3 +5,4 @@ pub mod Prepass
 pub mod Checked
 pub mod Inner
 pub mod Accepted
+pub mod Laws

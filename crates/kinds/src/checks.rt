@@ -5,7 +5,6 @@ ghost use Rattle.kinds.specs.Checks.{length_checks, lsf_checks, pitch_checks, ga
 ghost use Rattle.kinds.specs.Kind.{kind_of, frame_kind, index_kind, call_outcome};
 ghost use Rattle.kinds.specs.Checked.{lent_kind, checked_kind};
 
-use super::SAMPLES;
 use crate::kind::{CheckedKind, SheetKind};
 use crate::sheet::CheckedSheet;
 use gain::Tables;
@@ -24,11 +23,7 @@ fn check_lengths(count: usize, numbers: usize, room: usize) -> Outcome
     if other_count {
         return Err(Refusal::SheetLength);
     }
-    let other_room = room != SAMPLES;
-    if other_room {
-        return Err(Refusal::OutputLength);
-    }
-    Ok(())
+    outcome::check_room(room)
 }
 
 // 2: an LSF outside 0..=16384. 6: the first LSF below 205, or a later one less than 205 above the one before.

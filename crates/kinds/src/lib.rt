@@ -1,6 +1,9 @@
 // The kinds of sheets: their checks, and what each comes to before the core, the inputs of its frame.
 #![tactic(auto)]
 
+ghost use Rattle.kinds.specs.Accepted.{AcceptedExactly};
+ghost use Rattle.kinds.specs.Laws.{OwnGains, IndexCallGains, IndexEnergies, ErasedGains};
+
 mod checks;
 mod kind;
 mod lags;
@@ -13,6 +16,7 @@ use gain::GainDecoder;
 use gain_concealment::GainConcealment;
 pub use kind::{CheckedKind, SheetKind};
 pub use lags::Lags;
+pub use outcome::SAMPLES;
 pub use sheet::CheckedSheet;
 use state::Concealment;
 
@@ -24,9 +28,6 @@ pub const INDEX_SHEET: usize = 178;
 
 /// The numbers of an erased sheet.
 pub const ERASED_SHEET: usize = 171;
-
-/// The numbers of the lent output.
-pub const SAMPLES: usize = 160;
 
 /// What goes from subframe to subframe before the core: the sharpening that the gains leave, the past energies, and the gains' concealment.
 #[derive(Clone, Copy)]
@@ -43,3 +44,12 @@ pub struct Prepared {
     pub concealment: Concealment,
     pub gain_decoder: GainDecoder,
 }
+
+/// What an accepted call has shown, and what is promised of its gains.
+pub fn laws()
+    ensures accepted { AcceptedExactly }
+    ensures own_gains { OwnGains }
+    ensures index_call_gains { IndexCallGains }
+    ensures index_energies { IndexEnergies }
+    ensures erased_gains { ErasedGains }
+{}

@@ -1,10 +1,8 @@
--- The decimal digits of a number are std's; how many there are.
-use Rattle.std.proofs.Common.{◌≡◌, refl, ap, List, [], ◌∷◌, ◌++◌, ℕ, zero, suc, ◌^◌, ◌/◌, ◌%◌, ◌<◌, ◌≤◌, arith, lt-ltb, le-ltb, ℤ, pos, negsuc, w32, SFits}
-use Rattle.std.specs.Fmt.{decimal as digits, signed_decimal}
+-- The decimal digits of a number are std's.
+use Rattle.std.proofs.Common.{◌≡◌, ap, List, [], ◌∷◌, ◌++◌, ℕ, zero, suc, ◌^◌, ◌/◌, ◌%◌, ◌<◌, ◌≤◌, arith, lt-ltb, le-ltb, refl}
+use Rattle.std.specs.Fmt.{decimal as digits}
 use Rattle.std.proofs.lemmas.Fmt.{decimal_by_steps}
-use Rattle.basicop.proofs.Ints.{arith_ℤ}
-use Rattle.basicop.proofs.Tests.{no_less}
-use Rattle.lines.specs.Lines.{digit, spelled, decimal, integer}
+use Rattle.lines.specs.Lines.{digit, spelled, decimal}
 
 -- so is what is spelled with room enough for the digits before the last
 one : (n : ℕ) → n < 10 → (k : ℕ) → n ≤ k → spelled k n ≡ digit n ∷ []
@@ -20,8 +18,3 @@ more n front h f (suc k) l = rw (le-ltb n 10 h) (ap (λ (xs : List ℕ). xs ++ (
 pub decimal_digits : (n : ℕ) → n < 2 ^ 64 → decimal n ≡ digits n
 unfolding decimal
 decimal_digits n h = decimal_by_steps (λ (m : ℕ) (ds : List ℕ). (k : ℕ) → m ≤ k → spelled k m ≡ ds) one more n h n (omega arith)
-
-pub integer_digits : (z : ℤ) → SFits w32 z → integer z ≡ signed_decimal z
-unfolding integer
-integer_digits (pos n) h = rw (no_less (pos n) (pos 0) (omega arith_ℤ)) (decimal_digits n (omega (arith, h.sfits)))
-integer_digits (negsuc n) h = ap (λ (ds : List ℕ). 0x2D ∷ ds) (decimal_digits (suc n) (omega (arith, h.sfits)))

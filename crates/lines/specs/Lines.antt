@@ -1,7 +1,5 @@
--- The bench program's lines, as bytes of ASCII: document 01, "The bench program's lines", with the peak of document 02, 4/13.
-use Rattle.std.specs.Prelude.{Bool, false, if◌then◌else◌, ◌||◌, ℕ, zero, suc, ◌+◌, ◌/◌, ◌%◌, nat_lt, ℤ, pos, nat_abs, codes}
-use mathlib.Core.List.{List, [], ◌∷◌, ◌++◌, map, foldl}
-use Rattle.std.specs.Int.Signed.{lt_z}
+-- The bench program's lines, as bytes of ASCII: docs/BENCH.md, "Bench program".
+use Rattle.std.specs.Prelude.{Bool, false, if◌then◌else◌, ◌||◌, ℕ, zero, suc, ◌+◌, ◌/◌, ◌%◌, max, nat_lt, nat_le, ℤ, nat_abs, List, [], ◌∷◌, ◌++◌, map, codes}
 
 -- ---- numbers
 -- the ASCII code of a digit
@@ -17,35 +15,23 @@ spelled (suc k) n = if nat_lt n 10 then digit n ∷ [] else spelled k (n / 10) +
 unfoldable pub decimal : ℕ → List ℕ
 decimal n = spelled n n
 
--- an integer: the minus sign 2D where it is negative, and the digits of its magnitude. No peak is negative (`peak_unsigned`): the sign is not reached in a
--- printed peak, nor in a mean of peaks
-unfoldable pub integer : ℤ → List ℕ
-integer z = if lt_z z (pos 0) then 0x2D ∷ decimal (nat_abs z) else decimal (nat_abs z)
-
 -- ---- peak and mark
-abbrev pub larger : ℤ → ℤ → ℤ
-larger a b = if lt_z a b then b else a
+-- the largest of natural numbers, and 0 of none
+unfoldable pub largest : List ℕ → ℕ
+largest [] = 0
+largest (n ∷ ns) = max n (largest ns)
 
--- the largest of numbers, of which there is at least one
-unfoldable pub largest : List ℤ → ℤ
-largest [] = pos 0
-largest (x ∷ xs) = foldl larger x xs
-
--- the distance of a number from zero is its magnitude: of -32768 it is 32768
-abbrev pub distance : ℤ → ℤ
-distance x = pos (nat_abs x)
-
--- document 02's peak: the largest distance from zero among the samples
-unfoldable pub peak_of : List ℤ → ℤ
-peak_of xs = largest (map distance xs)
+-- the largest distance from zero among the samples: that of -32768 is 32768
+unfoldable pub peak_of : List ℤ → ℕ
+peak_of samples = largest (map nat_abs samples)
 
 unfoldable pub any_of : List Bool → Bool
 any_of [] = false
 any_of (flag ∷ flags) = flag || any_of flags
 
--- document 01's mark: L if the peak is 32760 or more; otherwise R if any flag; otherwise -
-unfoldable pub mark_of : ℤ → List Bool → ℕ
-mark_of peak flags = if lt_z peak (pos 32760) then (if any_of flags then 0x52 else 0x2D) else 0x4C
+-- L if the peak is 32760 or more; otherwise R if any flag; otherwise -
+unfoldable pub mark_of : ℕ → List Bool → ℕ
+mark_of peak flags = if nat_le 32760 peak then 0x4C else (if any_of flags then 0x52 else 0x2D)
 
 -- ---- fields and lines
 abbrev pub space : ℕ
@@ -76,8 +62,8 @@ abbrev pub last : List ℕ → List ℕ
 last xs = xs ++ (line_feed ∷ [])
 
 -- sheet number, four flags, peak, mark
-unfoldable pub frame_line : ℕ → List Bool → ℤ → List ℕ
-frame_line n flags peak = field (decimal n) (field (map flag_digit flags) (field (integer peak) (last (mark_of peak flags ∷ []))))
+unfoldable pub frame_line : ℕ → List Bool → ℕ → List ℕ
+frame_line n flags peak = field (decimal n) (field (map flag_digit flags) (field (decimal peak) (last (mark_of peak flags ∷ []))))
 
 -- sheet number, `refused`, refusal, place
 unfoldable pub refused_line : ℕ → ℕ → ℕ → List ℕ

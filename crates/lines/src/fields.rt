@@ -1,16 +1,17 @@
-// A text of bytes with room for so many, and the fields that are put into it, each after the bytes that are there.
+//! A text of bytes with room for so many, and the fields that are put into it, each after the bytes that are there.
 ghost use Rattle.std.specs.Prelude.{◌≡◌, [], ◌∷◌, ◌++◌, map, ◌+◌, ◌<◌, ◌≤◌, length};
-ghost use Rattle.lines.specs.Lines.{decimal, integer, flag_digit};
+ghost use Rattle.lines.specs.Lines.{decimal, flag_digit};
 
 use itoa::Buffer;
 use std::marker::Model;
 
-// The room of a line: more than any line of the programs has.
+/// The room of a line: more than any line of the programs has.
 pub const LINE_ROOM: usize = 128;
 
+/// A line of the programs, as far as it is made.
 pub type Line = Text<LINE_ROOM>;
 
-// The bytes of a text, as far as it is made.
+/// The bytes of a text, as far as it is made.
 #[derive(Drop)]
 pub struct Text<const ROOM: usize> {
     bytes: [u8; ROOM],
@@ -28,7 +29,7 @@ impl<const ROOM: usize> Model for Text<ROOM> {
 }
 
 impl<const ROOM: usize> Text<ROOM> {
-    // The text of no bytes.
+    /// The text of no bytes.
     pub fn new() -> Self
         ensures { result ≡ [] }
     {
@@ -38,12 +39,14 @@ impl<const ROOM: usize> Text<ROOM> {
         }
     }
 
+    /// The bytes, as far as they are made.
     pub fn as_bytes(&self) -> &[u8]
         ensures { result.now ≡ self.now }
     {
         &self.bytes[..self.count]
     }
 
+    /// Puts a byte behind those that are there.
     pub fn push(&mut self, byte: u8)
         requires { length self.old < ROOM }
         ensures { self.new ≡ self.old ++ byte ∷ [] }
@@ -52,6 +55,7 @@ impl<const ROOM: usize> Text<ROOM> {
         self.count += 1;
     }
 
+    /// Puts bytes behind those that are there.
     pub fn extend_from_slice(&mut self, bytes: &[u8])
         requires { length self.old + length bytes.now ≤ ROOM }
         ensures { self.new ≡ self.old ++ bytes.now }
@@ -62,7 +66,7 @@ impl<const ROOM: usize> Text<ROOM> {
         self.count = end;
     }
 
-    // The digits of a number.
+    /// The digits of a number.
     #[tactic(auto, using(crate::proofs::Decimals::decimal_digits))]
     pub fn push_decimal(&mut self, n: u64)
         requires { length self.old + 20 ≤ ROOM }
@@ -71,17 +75,6 @@ impl<const ROOM: usize> Text<ROOM> {
     {
         let mut digits = Buffer::new();
         self.extend_from_slice(digits.format(n).as_bytes());
-    }
-
-    // A minus sign where the number is negative, which no peak is, and the digits.
-    #[tactic(auto, using(crate::proofs::Decimals::integer_digits))]
-    pub fn push_integer(&mut self, x: i32)
-        requires { length self.old + 21 ≤ ROOM }
-        ensures line { self.new ≡ self.old ++ integer x }
-        ensures within { length self.new ≤ length self.old + 21 }
-    {
-        let mut digits = Buffer::new();
-        self.extend_from_slice(digits.format(x).as_bytes());
     }
 
     // The four flags, written together.

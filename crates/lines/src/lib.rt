@@ -1,4 +1,4 @@
-// The bench program's lines: decimal numbers, peak, mark, and each line as bytes.
+//! The bench program's lines: decimal numbers, peak, mark, and each line as bytes.
 #![tactic(auto)]
 
 ghost use Rattle.std.specs.Prelude.{◌≡◌};
@@ -10,9 +10,8 @@ mod marks;
 pub use fields::{LINE_ROOM, Line, Text};
 pub use marks::{mark, peak};
 
-// An accepted sheet: its number, four flags, peak and mark.
-#[tactic(auto, unfolding(crate::specs::Lines::frame_line))]
-pub fn frame_line(number: u64, flags: [bool; 4], peak: i32) -> Line
+/// An accepted sheet: its number, four flags, peak and mark.
+pub fn frame_line(number: u64, flags: [bool; 4], peak: u16) -> Line
     ensures { result ≡ frame_line number flags peak }
 {
     let mut line = Line::new();
@@ -20,12 +19,14 @@ pub fn frame_line(number: u64, flags: [bool; 4], peak: i32) -> Line
     line.push(b' ');
     line.push_flags(flags);
     line.push(b' ');
-    line.push_integer(peak);
-    line.extend_from_slice(&[b' ', mark(peak, flags), b'\n']);
+    line.push_decimal(u64::from(peak));
+    line.push(b' ');
+    line.push(mark(peak, flags));
+    line.push(b'\n');
     line
 }
 
-// A refused sheet: its number, `refused`, refusal and place.
+/// A refused sheet: its number, `refused`, refusal and place.
 #[tactic(auto, unfolding(crate::specs::Lines::refused_line))]
 pub fn refused_line(number: u64, refusal: u64, place: usize) -> Line
     ensures { result ≡ refused_line number refusal place }
@@ -40,7 +41,7 @@ pub fn refused_line(number: u64, refusal: u64, place: usize) -> Line
     line
 }
 
-// A short last sheet: its number and `cut`.
+/// A short last sheet: its number and `cut`.
 #[tactic(auto, unfolding(crate::specs::Lines::cut_line))]
 pub fn cut_line(number: u64) -> Line
     ensures { result ≡ cut_line number }
@@ -51,7 +52,7 @@ pub fn cut_line(number: u64) -> Line
     line
 }
 
-// A refused record: `state refused` and the refusal.
+/// A refused record: `state refused` and the refusal.
 #[tactic(auto, unfolding(crate::specs::Lines::state_line))]
 pub fn state_line(refusal: u64) -> Line
     ensures { result ≡ state_line refusal }

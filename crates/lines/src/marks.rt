@@ -1,23 +1,29 @@
-// Peak and mark of a frame.
-ghost use Rattle.std.specs.Prelude.{◌≡◌};
+//! Peak and mark of a frame.
+ghost use Rattle.std.specs.Prelude.{◌≡◌, max, nat_abs};
 ghost use Rattle.lines.specs.Lines.{peak_of, mark_of};
+ghost use Rattle.lines.specs.Peaks.{PeakSides, MarkSides};
 
-// The largest distance from zero among the samples: of -32768 it is 32768.
-pub fn peak(samples: [i16; 160]) -> i32
-    ensures { result ≡ peak_of samples }
+// The larger of a distance and a sample's distance from zero.
+fn farther(most: u16, x: i16) -> u16
+    ensures { result ≡ max most (nat_abs x) }
 {
-    samples
-        .iter()
-        .fold(0, |most: i32, x| most.max(i32::from(x.unsigned_abs())))
+    most.max(x.unsigned_abs())
 }
 
-// L if the peak is 32760 or more; otherwise R if any flag; otherwise -.
-pub fn mark(peak: i32, flags: [bool; 4]) -> u8
+/// The largest distance from zero among the samples: that of -32768 is 32768.
+pub fn peak(samples: [i16; 160]) -> u16
+    ensures { result ≡ peak_of samples }
+{
+    samples.iter().fold(0, |most, x| farther(most, *x))
+}
+
+/// L if the peak is 32760 or more; otherwise R if any flag; otherwise -.
+pub fn mark(peak: u16, flags: [bool; 4]) -> u8
     ensures { result ≡ mark_of peak flags }
 {
-    let quiet = peak < 32760;
+    let loud = peak >= 32760;
     let retried = flags.contains(&true);
-    if !quiet {
+    if loud {
         b'L'
     } else if retried {
         b'R'
@@ -25,3 +31,9 @@ pub fn mark(peak: i32, flags: [bool; 4]) -> u8
         b'-'
     }
 }
+
+/// What peak and mark are beside the highest sample, by which frames were once marked.
+pub fn laws()
+    ensures peak { PeakSides }
+    ensures mark { MarkSides }
+{}

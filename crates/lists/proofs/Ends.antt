@@ -1,6 +1,6 @@
 -- A loop that fills an array from both ends: it agrees with the wanted list in the first i places, and from place j on.
 use Rattle.std.proofs.Common.{ℕ, suc, ◌+◌, ◌≤◌, ◌<◌, ◌≡◌, sym, ap₂, ◌∙◌, List, ◌++◌, arith, length, set, drop, length-set, take-append-drop, drop_of_length-le, drop-set-lt, drop-cons, get_or-set_same, lt-length-set, ℤ, pos}
-use lib.Seq.{take-set-le}
+use Rattle.std.proofs.Math.Seq.{take-set-le}
 use Rattle.lists.specs.Lists.{at}
 use Rattle.lists.proofs.Fill.{Filled, fill_more}
 

@@ -1,7 +1,7 @@
 -- Entries of lists that are made from others.
 use Rattle.std.proofs.Common.{ℕ, zero, suc, ◌+◌, ◌-◌, ◌≤◌, ◌<◌, ◌≡◌, refl, sym, ap, ◌∙◌, List, [], ◌∷◌, ◌++◌, map, ⊎_elim, add-one, add_comm, not-suc-le-zero, le_of_suc-le-suc, eq-or-lt_of_le, arith, length, take, drop, get_or, length-append, length-drop, get_or-drop, get_or-take, get_or-append-add, length-take-le, take_all, ℤ, pos}
-use lib.ListN.{get_or-append}
-use lib.Seq.{get_or_at}
+use Rattle.std.proofs.Math.ListN.{get_or-append}
+use Rattle.std.proofs.Math.Seq.{get_or_at}
 use Rattle.lists.specs.Lists.{at, tab, pairwise, Every}
 
 pub at_drop : (xs : List ℤ) (k i : ℕ) → at xs (i + k) ≡ at (drop k xs) i

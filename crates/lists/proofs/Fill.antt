@@ -1,6 +1,6 @@
 -- A loop that fills an array from the front: after i turns it agrees with the wanted list in the first i places.
 use Rattle.std.proofs.Common.{ℕ, ◌+◌, ◌≤◌, ◌<◌, ◌≡◌, refl, sym, ◌∙◌, List, add-one, arith, length, set, take, length-set, get_or-set_other, take-suc, take-suc-set, take_all, ℤ, pos}
-use lib.Seq.{set-get_or}
+use Rattle.std.proofs.Math.Seq.{set-get_or}
 use Rattle.lists.specs.Lists.{at}
 
 pub record Filled (n m : ℕ) (src out : List ℤ) (i : ℕ) : Type 0 where

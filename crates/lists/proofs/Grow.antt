@@ -1,6 +1,6 @@
 -- A loop that feeds on what it made: the first off + n places of buf are the list so far.
 use Rattle.std.proofs.Common.{ℕ, zero, suc, ◌+◌, ◌<◌, ◌≡◌, sym, ap, ◌∙◌, subst, List, [], ◌∷◌, ◌++◌, ⊎_elim, add-one, add-zero, add-suc, not-suc-le-zero, le_of_suc-le-suc, eq-or-lt_of_le, arith, length, set, take, length-set, length-append, take-suc-set, take_all, ℤ, pos}
-use lib.Seq.{set-get_or, get_or_at}
+use Rattle.std.proofs.Math.Seq.{set-get_or, get_or_at}
 use Rattle.lists.specs.Lists.{at, iter, grow}
 use Rattle.lists.proofs.Entries.{at_left}
 use Rattle.lists.proofs.Count.{Iter, iter_none, iter_more, iter_done}

@@ -1,8 +1,8 @@
 -- An array that `array::from_fn` made entry by entry is the list of those entries.
 use Rattle.std.proofs.Common.{ℕ, zero, suc, ◌+◌, ◌≤◌, ◌<◌, ◌≡◌, refl, sym, ◌∙◌, List, map, ⊎_elim, eq-or-lt_of_le, arith, length, ℤ, pos}
-use lib.ListN.{length-map}
+use Rattle.std.proofs.Math.ListN.{length-map}
 use Rattle.std.proofs.lemmas.List.{ext_get_or}
-use denote.Param.Members.{Mut, Called}
+use Rattle.std.specs.Fn.{Mut, Called}
 use Rattle.std.specs.Array.{IsFromFnResult, IsFromFnResultFrom, index_steps}
 use Rattle.std.specs.Iterator.{CallableAtEachTurn}
 use Rattle.std.proofs.lemmas.Fn.{serves_by}

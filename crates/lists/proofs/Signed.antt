@@ -1,7 +1,7 @@
 -- A signed local is its bits (`of_z`), an array's list has numbers. What crosses a local comes back as `to_z w (of_z w z)`.
 use Rattle.std.proofs.Common.{ℕ, zero, suc, ◌<◌, ◌^◌, ◌≡◌, ◌∙◌, List, [], ◌∷◌, ℤ, pow_pos, SFits, to_z, of_z, to_z-of_z}
-use lib.Signed.{mag}
-use mir.Syntax.{Width}
+use Rattle.std.specs.Int.Signed.{mag}
+use Rattle.std.specs.Int.{Width}
 use mir.Val.{Val, hbits}
 use denote.Array.{each}
 use denote.Shadow.{shadow}
@@ -23,6 +23,6 @@ each_in w (x ∷ xs) [] p i = absurd p
 each_in w (x ∷ xs) (u ∷ us) p zero = p.0.1
 each_in w (x ∷ xs) (u ∷ us) p (suc i) = each_in w xs us p.1 i
 
--- the same as a record, which `search (needs, entry_fits)` finds
+-- the same as a record, which `search (rules, entry_fits)` finds
 pub entry_fits : (w : Width) (xs : List ℤ) (us : List Val) (i : ℕ) → shadow (each ℤ (SInt w).own_val xs us) → SFits w (at xs i)
 entry_fits w xs us i p = record { sfits = each_in w xs us p i }

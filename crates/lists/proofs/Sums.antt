@@ -1,6 +1,6 @@
 -- Counts and sums of one list after another.
 use Rattle.std.proofs.Common.{ℕ, ◌+◌, ◌≡◌, refl, sym, ap, ◌∙◌, Bool, true, false, cond, List, [], ◌∷◌, ◌++◌, arith, ℤ, ◌+ℤ◌}
-use lib.IntN.{+ℤ_idl, +ℤ_assoc}
+use Rattle.std.proofs.Math.IntN.{+ℤ_idl, +ℤ_assoc}
 use Rattle.lists.specs.Lists.{count, selected, total_z}
 use Rattle.lists.specs.Parts.{total}
 

@@ -1,6 +1,6 @@
 -- The 16-bit clamps of the blends never act: a blend is the sum of its parts.
 use Rattle.std.proofs.Common.{◌≡◌, lit<, ℤ, ◌+ℤ◌, ◌-ℤ◌, w16, SFits}
-use lib.Signed.{shr_z}
+use Rattle.std.specs.Int.Signed.{shr_z}
 use Rattle.basicop.specs.Ops.{asr, add, sub}
 use borrow.Author.Differences.{sum_is_lem}
 use Rattle.basicop.proofs.Ints.{arith_ℤ, sfits_by, sub_ℤ_is}

@@ -40,7 +40,7 @@ polynomial q (suc d) = raised (polynomial q d) (at q (suc d))
 abbrev pub every_second : ℕ → List ℤ → List ℤ
 every_second o q = at q o ∷ at q (o + 2) ∷ at q (o + 4) ∷ at q (o + 6) ∷ at q (o + 8) ∷ []
 
--- document 01: "(value >> 13) plus bit 12 of value, and only its low 16 bits are kept, read as signed"
+-- v >> 13 plus bit 12 of v, and of that the low 16 bits, read as signed (docs/BENCH.md, "Coefficient rows")
 abbrev pub coefficient : ℤ → ℤ
 coefficient v = extract_l (l_shr_r v (pos 13))
 

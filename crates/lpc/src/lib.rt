@@ -9,7 +9,7 @@ use basicop::{
 };
 use std::array;
 
-// Four rows of eleven coefficients (Q12), one for each subframe.
+/// Four rows of eleven coefficients (Q12), one for each subframe.
 #[derive(Clone, Copy, PartialEq, Eq, Debug, Default)]
 pub struct Rows {
     pub a: [i16; 11],
@@ -84,7 +84,7 @@ fn polynomial(roots: [i16; 5], degree: usize) -> [i32; 6]
     )
 }
 
-// A coefficient (Q12) of a sum (Q24): rounded, and its low 16 bits kept.
+/// A coefficient (Q12) of a sum (Q24): rounded, and its low 16 bits kept.
 pub fn rounded_coefficient(value: i32) -> i16
     ensures { result ≡ coefficient value }
 {
@@ -113,7 +113,7 @@ fn every_second(lsp: [i16; 10], offset: usize) -> [i16; 5]
     array::from_fn(|k| lsp[offset + 2 * k])
 }
 
-// Lsp_Az: a row from ten LSPs.
+/// Lsp_Az: a row from ten LSPs.
 pub fn convert(lsp: [i16; 10]) -> [i16; 11]
     ensures { result ≡ row_of lsp }
 {
@@ -122,7 +122,7 @@ pub fn convert(lsp: [i16; 10]) -> [i16; 11]
     row(f, g)
 }
 
-// Int_lpc_1to3: the four rows of a frame, from the LSPs of the frame before and its own.
+/// Int_lpc_1to3: the four rows of a frame, from the LSPs of the frame before and its own.
 pub fn interpolate(previous_lsp: [i16; 10], lsp: [i16; 10]) -> Rows
     ensures { result ≡ rows_of previous_lsp lsp }
 {

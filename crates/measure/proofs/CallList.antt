@@ -1,4 +1,4 @@
--- Demand 3.
+-- Every list of calls is as measured: the claim of specs/CallList.antt.
 use Rattle.std.proofs.Common.{sym, subst, true≢false, List, [], ◌∷◌, pos}
 use lib.Signed.{le_z_yes}
 use Rattle.basicop.proofs.Ints.{≤ℤ_trans}

@@ -8,9 +8,9 @@ use Rattle.state.specs.declared.State.{State}
 use Rattle.outcome.specs.Outcome.{Outcome}
 use Rattle.state.specs.State.{SignalFormed}
 use Rattle.state.proofs.Checks.{InRange}
-use Rattle.mr74.specs.Prepass.{Prepared}
+use Rattle.kinds.specs.Prepass.{PreparedFrame}
 use Rattle.mr74.specs.Frame.{Trace, accepted_trace}
-use Rattle.mr74.proofs.Usable.{UsablePrepared}
+use Rattle.kinds.proofs.Usable.{UsablePrepared}
 use Rattle.calls.specs.Calls.{Call, trace_of, next_state, accepted}
 use Rattle.calls.proofs.Frames.{held, frame_facts, frame_divisors}
 use Rattle.calls.proofs.Calls.{decided, accepts, refuses}
@@ -22,7 +22,7 @@ not_zero : (n : ℕ) → 1 ≤ n → (q : Quotient) → Divides n q → ¬ (q.di
 not_zero n h q d e = omega (arith_ℤ, d.from, e)
 
 -- the frame that a usable sheet comes to
-frame_in : (p : Prepared) (s : State) → UsablePrepared p → SignalFormed s → InRange s → (o : Outcome) → AcceptedCall (accepted_trace o p s) (opening s)
+frame_in : (p : PreparedFrame) (s : State) → UsablePrepared p → SignalFormed s → InRange s → (o : Outcome) → AcceptedCall (accepted_trace o p s) (opening s)
 frame_in p s u w k o =
     let r = frame_facts p s u w k in
     let h = held p s u w k in
@@ -41,7 +41,7 @@ unfolding machine_after_subframes
 call_refused s c m e = subst (λ (t : Trace). RefusedCall s t m) (sym (refuses s c e).trace) (record { none = refl; no_tilt = refl; no_quotient = refl; machine = refl; state = refl })
 
 module _ (s : State) (c : Call) (w : SignalFormed s) where
-  -- an accepted call, as demand 3 has it
+  -- an accepted call, as measured
   pub call_in : accepted (trace_of s c) ≡ true → AcceptedCall (trace_of s c) (opening s)
   call_in e = let a = accepts s c e in subst (λ (t : Trace). AcceptedCall t (opening s)) (sym a.trace) (frame_in a.frame s a.usable w a.state a.outcome)
 

@@ -1,4 +1,5 @@
--- Demand 3: a single claim about a list of frame calls, from an opening state. The theorem is `every_list_as_measured` in proofs/CallList.antt.
+-- One claim about a whole list of frame calls, from an opening state: docs/BENCH.md, "Lists of calls", whose sentences are quoted. The theorem is `every_list_as_measured`
+-- in proofs/CallList.antt.
 use Rattle.std.specs.Prelude.{◌≡◌, Ok, true, false, List, [], ◌∷◌, map, ◌≤◌, ℤ, pos, negsuc, length, ◌≤ℤ◌}
 use Rattle.lists.specs.Lists.{Every}
 use Rattle.basicop.specs.Ops.{Quotient}
@@ -22,19 +23,19 @@ pub record AsMeasured (f : SynthesisInput) (m : Machine) (d : SynthesisResult) :
   pub input : (length f.feedback ≡ 40) × (length f.excitation ≡ 40)
   pub machine : (length m.history ≡ 10) × (length m.past ≡ 154)
   pub forty : length d.samples ≡ 40
-  -- "A subframe's flag is 1, retried, exactly when document 01's whole-number recurrence, unclamped, on its first excitation leaves 32 signed bits
-  -- at some step."
+  -- "Its flag is 1 exactly where one of the machine's unclamped whole numbers on its first excitation lies outside 32 signed bits."
   pub flag : flag_of d.place ≡ retried 10 f.row f.excitation m.history
-  -- document 02, 1/13: the place "is the first sample at which the unclamped recurrence leaves 32 bits", 0 to 39, and 40 where it leaves them at none
+  -- "Its place is the first sample that has such a number, 0 to 39, and 40 where none has."
   pub place : d.place ≡ retried_at 10 f.row f.excitation m.history
   pub within : d.place ≤ 40
-  -- "Unretried, its forty synthesis samples are that recurrence's."
+  -- "Not retried, its forty synthesis samples are the machine's."
   pub samples : flag_of d.place ≡ false → d.samples ≡ whole_samples 10 f.row f.excitation m.history
+  -- "Not retried, its feedback is what it was, and the past has taken that in."
   pub unretried : flag_of d.place ≡ false → (d.feedback ≡ f.feedback) × (d.past ≡ takes_in m.past f.feedback)
-  -- "Retried, feedback excitation and past were quartered once, rounding down,"
+  -- "Retried, feedback and past were quartered once, each number >> 2, and the past has taken the quartered feedback in."
   pub quartered : flag_of d.place ≡ true
       → (d.feedback ≡ quarters f.feedback) × (d.past ≡ takes_in (quarters m.past) (quarters f.feedback))
-  -- "and the samples are the clamped recurrence's on that feedback."
+  -- "Retried, its samples are those of the clamped steps on the quartered feedback, from the same history."
   pub retried_samples : flag_of d.place ≡ true → d.samples ≡ held_samples f.row d.feedback m.history
 
 -- one after another, each against what the machine's own subframe before it left
@@ -53,25 +54,27 @@ machine_after_call m t = machine_after_subframes (map (λ (u : SubframeResult). 
 
 -- ---- an accepted call
 pub record AcceptedCall (t : Trace) (m : Machine) : Type 0 where
-  -- "In each accepted call every postfilter tilt lay in 0..=26214": one a subframe
+  -- "It has four tilts, one a subframe, and each lies in 0..=26214."
   pub tilts : (length t.tilts ≡ 4) × Every (In (pos 0) (pos 26214)) t.tilts
-  -- "and no divisor was zero."
+  -- "No divisor of it is zero."
   pub divisors : Every (λ (q : Quotient). ¬ (q.divisor ≡ pos 0)) t.quotients
-  -- the answer's four places, with them its flags, and its four rows are those of the four subframes
+  -- "It has four subframes, and the answer's places and rows are theirs."
   pub four : length t.subframes ≡ 4
   pub places : t.places ≡ map (λ (u : SubframeResult). u.synthesis.place) t.subframes
   pub rows : map (λ (u : SubframeResult). u.input.row) t.subframes ≡ t.rows.a ∷ t.rows.b ∷ t.rows.c ∷ t.rows.d ∷ []
   -- each subframe is as the machine has it
   pub subframes : SubframesAsMeasured m t.subframes
-  -- and the state given back has the history and the past that the machine is left with
+  -- "The state that it gives back has the history and the past that the machine is left with."
   pub next : opening t.next ≡ machine_after_call m t
 
--- ---- a refused call, on the state s: "A refused call has no subframe and leaves both."
+-- ---- a refused call, on the state s
 pub record RefusedCall (s : State) (t : Trace) (m : Machine) : Type 0 where
+  -- "It has no subframe, no tilt and no divisor, and leaves the machine's history and past."
   pub none : t.subframes ≡ []
   pub no_tilt : t.tilts ≡ []
   pub no_quotient : t.quotients ≡ []
   pub machine : machine_after_call m t ≡ m
+  -- "The state that it gives back is the one that it took."
   pub state : t.next ≡ s
 
 -- ---- in each call of the list, with the machine as it stood before the call
@@ -83,17 +86,18 @@ EachCall s m (c ∷ cs) =
 
 -- ---- the claim
 pub record ListAsMeasured (s : State) (cs : List Call) : Type 0 where
-  -- "once a call was accepted, the state after the list has sharpening in 0..=13017, smoothed gain in 0..=32765,"
+  -- "Where some call was accepted, the sharpening after the list lies in 0..=13017."
   pub sharpening : any_accepted (run_calls s cs) ≡ true → In (pos 0) (pos 13017) (state_after s cs).core.sharpening.0
+  -- "Where some call was accepted, the smoothed gain after the list lies in 0..=32765."
   pub gain : any_accepted (run_calls s cs) ≡ true → In (pos 0) (pos 32765) (state_after s cs).post.gain.previous_gain
-  -- "and, if the latest accepted call's last subframe was retried, all 154 past excitations in -8192..=8191."
+  -- "Where the last subframe of the latest accepted call was retried, all 154 past excitations after the list lie in -8192..=8191."
   pub past : flag_of (latest_place 40 (run_calls s cs)) ≡ true
       → (length (state_after s cs).core.past ≡ 154) × Every (In (negsuc 8191) (pos 8191)) (state_after s cs).core.past
   -- tilts, divisors, places, samples, feedback and past
   pub calls : EachCall s (opening s) cs
 
--- from any accepted state, for every list of calls, refused ones included, of any sheets and outputs, the empty list too
--- "accepted" is the demand's own word, and stands here for the reader: the proof does not need it (`list_as_measured` has the claim without it), since from
--- a state that is turned back no call is accepted
+-- from any accepted state, for every list of calls of every kind, refused ones included, of any sheets, outputs, tables and energies, the empty list too. (Every state of
+-- the code is well-formed: `state::laws`.) That the opening state is accepted stands here for the reader: the proof does not need it (`list_as_measured` has the claim
+-- without it), since from a state that is turned back no call is accepted
 abbrev pub EveryListAsMeasured : Type 0
 EveryListAsMeasured = (s : State) → WellFormed s → state_outcome s ≡ Ok tt → (cs : List Call) → ListAsMeasured s cs

@@ -1,4 +1,4 @@
--- The machine of whole numbers: document 01, "What demand 3 measures by". It knows no operator of the definition, only +, -, ×, >> and the range of 32 bits;
+-- The machine of whole numbers: docs/BENCH.md, "Recurrence", whose sentences are quoted. It knows no operator of the definition, only +, -, ×, >> and the range of 32 bits;
 -- how samples follow one another (`recursion`) it shares with it.
 -- Its unclamped steps are synthesis/specs/Whole.antt.
 -- a: the row a0..a10; x: x(n); y: the samples before y(n), the last of them y(n - 1).
@@ -11,7 +11,7 @@ use Rattle.synthesis.specs.Recursion.{recursion}
 use Rattle.synthesis.specs.Whole.{product, whole_samples, retried}
 use Rattle.decoder.specs.Subframe.{SynthesisInput}
 
--- ---- "the same 23 steps, each clamped"
+-- ---- "the same 23 steps, but clamped"
 -- held to the range of 32 bits
 abbrev pub held : ℤ → ℤ
 held z = if lt_z z (least w32) then least w32 else if lt_z (most w32) z then most w32 else z
@@ -30,7 +30,7 @@ held_samples a xs history = drop 10 (recursion (held_sample a) xs history)
 abbrev pub quarters : List ℤ → List ℤ
 quarters zs = map (λ (z : ℤ). asr z 2) zs
 
--- ---- a subframe's history, "the ten synthesis samples before it, and the 154 past excitations"
+-- ---- "a history, the ten synthesis samples before the subframe, and the past, 154 excitations"
 pub record Machine : Type 0 where
   pub history : List ℤ
   pub past : List ℤ
@@ -40,7 +40,7 @@ pub record Measurement : Type 0 where
   pub samples : List ℤ
   pub past : List ℤ
 
--- "Either way the past then takes in the feedback, its oldest forty leaving"
+-- "the past drops its oldest forty and takes the feedback in"
 abbrev pub takes_in : List ℤ → List ℤ → List ℤ
 takes_in past feedback = drop 40 past ++ feedback
 
@@ -51,7 +51,7 @@ unretried_measurement f m =
       past = takes_in m.past f.feedback;
     }
 
--- "feedback and past are each >> 2, and the samples come from the same 23 steps, each clamped, with that feedback as x and the same history"
+-- "feedback and past are each >> 2, and the samples come by the same 23 steps, but clamped, with that feedback as x and from the same history"
 abbrev pub retried_measurement : SynthesisInput → Machine → Measurement
 retried_measurement f m =
     record {
@@ -59,7 +59,7 @@ retried_measurement f m =
       past = takes_in (quarters m.past) (quarters f.feedback);
     }
 
--- "The subframe is retried if any of the 40 × 23 lies outside the signed 32-bit range"
+-- "The subframe is retried where any of its 40 × 23 numbers lies outside -2147483648..=2147483647."
 unfoldable pub measurement : SynthesisInput → Machine → Measurement
 measurement f m = if retried 10 f.row f.excitation m.history then retried_measurement f m else unretried_measurement f m
 

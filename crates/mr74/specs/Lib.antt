@@ -1,4 +1,5 @@
 pub mod Frame
 pub mod Indexed
+pub mod Sharpening
 pub mod Divisions
 pub mod Inner

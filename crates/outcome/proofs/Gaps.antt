@@ -1,14 +1,14 @@
 -- The search for the first number that is too close to the one before.
-use Rattle.std.proofs.Common.{ℕ, zero, suc, min, ◌+◌, ◌<◌, ◌≡◌, refl, Bool, true, false, cond, not, List, [], ◌∷◌, arith, ℤ, pos, ◌+ℤ◌, ◌-ℤ◌, length, ◌≤ℤ◌}
-use lib.Signed.{lt_z}
-use borrow.Author.Tests.{not-true}
+use Rattle.std.proofs.Common.{ℕ, zero, suc, min, ◌+◌, ◌<◌, ◌≡◌, refl, ap, Bool, true, false, cond, not, List, [], ◌∷◌, arith, ℤ, pos, ◌+ℤ◌, ◌-ℤ◌, length, ◌≤ℤ◌}
+use Rattle.std.specs.Int.Signed.{lt_z}
+use Rattle.std.proofs.lemmas.Bool.{not-true}
 use Rattle.std.specs.Prelude.{position}
 use Rattle.std.specs.List.{zip, position_or_len}
 use Rattle.std.proofs.lemmas.Slice.Zip.{length-zip}
 use Rattle.lists.specs.Lists.{at}
 use borrow.Author.Differences.{sum_is_lem}
 use Rattle.basicop.proofs.Ints.{arith_ℤ, sub_ℤ_is}
-use Rattle.basicop.proofs.Tests.{less_no}
+use Rattle.basicop.proofs.Tests.{less_no, no_less}
 use Rattle.outcome.specs.Checks.{apart, found, first_close}
 use Rattle.outcome.proofs.Ranges.{one_more}
 
@@ -41,3 +41,11 @@ unfolding first_close
 in_gaps gap before [] k h = absurd (omega arith)
 in_gaps gap before (x ∷ xs) zero h = apart_by gap before x (one_more (apart gap before x) (first_close gap x xs) 0 h).0
 in_gaps gap before (x ∷ xs) (suc k) h = in_gaps gap x xs k (one_more (apart gap before x) (first_close gap x xs) (suc k) h).1
+
+-- ---- where every number lies so far above the one before it, none is found
+pub none_close : (gap before : ℤ) (xs : List ℤ) → ((k : ℕ) → k < length xs → (at (before ∷ xs) k +ℤ gap) ≤ℤ at xs k) → first_close gap before xs ≡ length xs
+unfolding first_close
+none_close gap before [] r = refl
+none_close gap before (x ∷ xs) r =
+    rw (no_less (x -ℤ before) gap (omega (arith_ℤ, r 0 (omega arith), sub_ℤ_is x before, sum_is_lem before gap)))
+    (ap suc (none_close gap x xs (λ k l. r (suc k) (omega (arith, l)))))

@@ -1,12 +1,11 @@
 -- The search for the first number outside 0..=its limit.
-use Rattle.std.proofs.Common.{ℕ, zero, suc, ◌+◌, ◌≤◌, ◌<◌, min, ◌≡◌, refl, subst, Bool, true, false, cond, not, ◌||◌, List, [], ◌∷◌, ◌++◌, append-nil, arith, ℤ, pos, length, replicate, ◌≤ℤ◌, ltb-false, T, ltb}
-use lib.Signed.{lt_z}
-use borrow.Author.Tests.{not-true}
+use Rattle.std.proofs.Common.{ℕ, zero, suc, ◌+◌, ◌≤◌, ◌<◌, min, ◌≡◌, refl, ap, subst, Bool, true, false, cond, not, ◌||◌, List, [], ◌∷◌, ◌++◌, append-nil, arith, ℤ, pos, length, replicate, ◌≤ℤ◌, ltb-false, T, ltb}
+use Rattle.std.specs.Int.Signed.{lt_z}
+use Rattle.std.proofs.lemmas.Bool.{not-true, or_parts}
 use Rattle.std.specs.Prelude.{Option, Some, None, is_some, position}
 use Rattle.std.specs.List.{zip, position_or_len}
 use Rattle.std.proofs.lemmas.Slice.Zip.{length-zip}
 use Rattle.lists.specs.Lists.{at, Every}
-use Rattle.std.proofs.lemmas.Bool.{or_parts}
 use Rattle.basicop.proofs.Ints.{arith_ℤ}
 use Rattle.basicop.proofs.Tests.{less_no, no_less}
 use Rattle.outcome.specs.Checks.{within, found, first_outside}
@@ -81,3 +80,12 @@ in_range_all zero limit (x ∷ xs) e h = absurd (omega (arith, e))
 in_range_all (suc n) limit (x ∷ xs) e h =
     let r = one_more (within limit x) (first_outside xs (replicate n limit)) n h in
     (in_range limit x r.0, in_range_all n limit xs (omega (arith, e)) r.1)
+
+-- ---- where every number lies in its range, none is found
+pub none_outside : (xs limits : List ℤ) → length xs ≡ length limits → ((k : ℕ) → k < length xs → (pos 0 ≤ℤ at xs k) × (at xs k ≤ℤ at limits k)) → first_outside xs limits ≡ length xs
+unfolding first_outside
+none_outside [] limits e r = refl
+none_outside (x ∷ xs) [] e r = absurd (omega (arith, e))
+none_outside (x ∷ xs) (limit ∷ limits) e r =
+    let h = r 0 (omega arith) in
+    rw (no_less x (pos 0) h.0, no_less limit x h.1) (ap suc (none_outside xs limits (omega (arith, e)) (λ k l. r (suc k) (omega (arith, l)))))

@@ -1,7 +1,8 @@
 -- Checks that are tested in order, and two searches: for the first number outside its range, and for the first that is too close to the one before.
-use Rattle.std.specs.Prelude.{◌≡◌, Bool, if◌then◌else◌, not, ◌||◌, List, [], ◌∷◌, Option, Some, None, Result, Ok, Err, MatchResult, ℕ, suc, nat_lt, ℤ, pos, ◌-ℤ◌}
+use Rattle.std.specs.Prelude.{◌≡◌, Bool, if◌then◌else◌, not, ◌||◌, ◌==◌, List, [], ◌∷◌, Option, Some, None, Result, Ok, Err, MatchResult, ℕ, suc, nat_lt, ℤ, pos, ◌-ℤ◌}
 use Rattle.std.specs.Int.Signed.{lt_z}
 use Rattle.outcome.specs.declared.Refusal.{Refusal}
+use Rattle.outcome.specs.declared.Refusal.TheVariants.{OutputLength}
 use Rattle.outcome.specs.Outcome.{Outcome}
 
 -- a line of a table of refusals: whether its condition is met, and the refusal
@@ -24,6 +25,10 @@ first_met (c ∷ checks) = if c.met then Err c.refusal else first_met checks
 -- what a function gives that hands on what its checks come to: where they accept, a value, of which P holds; else their refusal
 abbrev pub Checked : {X : Type 0} → Result X Refusal → Outcome → (X → Type 0) → Type 0
 Checked result outcome P = MatchResult result (λ x. (outcome ≡ Ok tt) × P x) (λ refusal. outcome ≡ Err refusal)
+
+-- 5: the lent output has not room for the 160 samples of a frame
+abbrev pub room_check : ℕ → List Check
+room_check room = check (not (room == 160)) OutputLength ∷ []
 
 -- ---- searches
 -- what a search found: the place of the first fault, where it is below the count

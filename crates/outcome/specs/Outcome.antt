@@ -1,4 +1,4 @@
--- Refusals: document 01, "Turned back by the sheet" and "Turned back by the state", and document 02, 3/13 (number 6), 5/13 (7 and 8) and 7/13 (9, 18, 19).
+-- What turns a call back: docs/BENCH.md, "Refusals".
 use Rattle.std.specs.Prelude.{Bool, ℕ, ◌==◌, Result, Ok, Err}
 use Rattle.outcome.specs.declared.Refusal.{Refusal}
 use Rattle.outcome.specs.declared.Refusal.TheVariants.{SheetLength, Lsf, PitchIndex, Gain, OutputLength, LsfGap, Table, GainIndex, Stage}
@@ -8,7 +8,7 @@ use Rattle.outcome.specs.declared.Refusal.TheVariants.{RecordShort, Tag, Version
 abbrev pub Outcome : Type 0
 Outcome = Result Unit Refusal
 
--- the papers' number
+-- the number of a refusal
 abbrev pub refusal_number : Refusal → ℕ
 refusal_number SheetLength = 1
 refusal_number (Lsf place) = 2
@@ -29,7 +29,7 @@ refusal_number SmoothedGain = 17
 refusal_number (GainField place) = 18
 refusal_number LastLag = 19
 
--- the papers' place
+-- where it lies: 197 of the last lag, and 0 of those with no place
 abbrev pub refusal_place : Refusal → ℕ
 refusal_place SheetLength = 0
 refusal_place (Lsf place) = place
@@ -59,6 +59,6 @@ abbrev pub place_of : Outcome → ℕ
 place_of (Ok t) = 0
 place_of (Err refusal) = refusal_place refusal
 
--- document 01's "accepted": no check turned the call back
+-- accepted: no check turned the call back
 abbrev pub is_accepted : Outcome → Bool
 is_accepted o = number_of o == 0

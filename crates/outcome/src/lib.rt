@@ -3,11 +3,11 @@
 
 ghost use Rattle.std.specs.Prelude.{◌≡◌, not, pos, length};
 ghost use Rattle.outcome.specs.Outcome.{refusal_number, refusal_place, number_of, place_of};
-ghost use Rattle.outcome.specs.Checks.{within, apart, found, first_outside, first_close};
+ghost use Rattle.outcome.specs.Checks.{within, apart, found, first_outside, first_close, first_met, room_check};
 
 use std::iter::once;
 
-// Document 01's refusals and document 02's, by their numbers. A place goes with 2, 3, 4, 6, 7, 8, 18 and 19.
+/// What turns a call back (docs/BENCH.md, "Refusals"), with its number. A place goes with 2, 3, 4, 6, 7, 8, 18 and 19.
 #[derive(Clone, Copy, Debug, PartialEq, Eq)]
 pub enum Refusal {
     // 1
@@ -48,10 +48,11 @@ pub enum Refusal {
     LastLag,
 }
 
-// What a call comes to: it is accepted, or a check turns it back.
+/// What a call comes to: it is accepted, or a check turns it back.
 pub type Outcome = Result<(), Refusal>;
 
 impl Refusal {
+    /// The refusal's number.
     pub fn number(self) -> u64
         ensures { result ≡ refusal_number self }
     {
@@ -77,7 +78,7 @@ impl Refusal {
         }
     }
 
-    // Where the refusal lies; 0 with those that have no place.
+    /// Where the refusal lies; 0 with those that have no place.
     pub fn place(self) -> usize
         ensures { result ≡ refusal_place self }
     {
@@ -95,18 +96,33 @@ impl Refusal {
     }
 }
 
-// The refusal's number, 0 where the call is accepted.
+/// The refusal's number, 0 where the call is accepted.
 pub fn number(outcome: Outcome) -> u64
     ensures { result ≡ number_of outcome }
 {
     outcome.err().map_or(0, Refusal::number)
 }
 
-// The refusal's place, 0 where the call is accepted.
+/// The refusal's place, 0 where the call is accepted.
 pub fn place(outcome: Outcome) -> usize
     ensures { result ≡ place_of outcome }
 {
     outcome.err().map_or(0, Refusal::place)
+}
+
+/// The samples of a frame: what the lent output has room for.
+pub const SAMPLES: usize = 160;
+
+/// Refusal 5: the lent output has not room for the samples of a frame.
+#[tactic(auto, unfolding(crate::specs::Checks::first_met))]
+pub fn check_room(room: usize) -> Outcome
+    ensures { result ≡ first_met (room_check room) }
+{
+    let other_room = room != SAMPLES;
+    if other_room {
+        return Err(Refusal::OutputLength);
+    }
+    Ok(())
 }
 
 // Whether a number lies outside 0..=limit.
@@ -116,7 +132,7 @@ fn is_outside(limit: i16, number: i16) -> bool
     !(0..=limit).contains(&number)
 }
 
-// The place of the first number outside 0..=its limit.
+/// The place of the first number outside 0..=its limit.
 pub fn first_outside(numbers: &[i16], limits: &[i16]) -> Option<usize>
     requires { length numbers.now ≡ length limits.now }
     ensures { result ≡ found (first_outside numbers.now limits.now) (length numbers.now) }
@@ -134,7 +150,7 @@ fn is_close(gap: i32, before: i16, number: i16) -> bool
     i32::from(number) - i32::from(before) < gap
 }
 
-// The place of the first number less than `gap` above the one before it; before the first stands 0.
+/// The place of the first number less than `gap` above the one before it; before the first stands 0.
 pub fn first_close(gap: i32, numbers: &[i16]) -> Option<usize>
     ensures { result ≡ found (first_close gap (pos 0) numbers.now) (length numbers.now) }
 {

@@ -14,7 +14,7 @@ pub record Lag : Type 0 where
 abbrev pub triple : ℤ → ℤ
 triple x = add (add x x) x
 
--- subframes 0 and 2: document 01's index n
+-- subframes 0 and 2, of the index n
 unfoldable pub absolute : ℤ → Lag
 absolute n =
     let t = add (mult (add n (pos 2)) (pos 10923)) (pos 19) in
@@ -42,7 +42,7 @@ relative n t =
 unfoldable pub concealed_lag : ℤ → Lag
 concealed_lag t = record { samples = if lt_z (sub t (pos 143)) (pos 0) then add t (pos 1) else t; thirds = pos 0 }
 
--- ---- the code's lag: document 01's thirds of each fraction
+-- ---- the code's lag, and the thirds of each fraction
 abbrev pub thirds_of : Fraction → ℤ
 thirds_of MinusThird = negsuc 0
 thirds_of Zero = pos 0

@@ -4,7 +4,7 @@
 ghost use Rattle.std.specs.Prelude.{◌≡◌, ◌≤◌, pos};
 ghost use Rattle.pitch.specs.Lag.{absolute, relative, concealed_lag, lag_min, thirds_of, lag_of};
 
-// A part of a sample, in thirds.
+/// A part of a sample, in thirds.
 #[derive(Clone, Copy, PartialEq, Eq, Debug)]
 pub enum Fraction {
     MinusThird,
@@ -12,21 +12,21 @@ pub enum Fraction {
     PlusThird,
 }
 
-// A lag of whole samples and a part of one.
+/// A lag of whole samples and a part of one.
 #[derive(Clone, Copy, PartialEq, Eq, Debug)]
 pub struct PitchLag {
     pub samples: u16,
     pub fraction: Fraction,
 }
 
-// What an erased frame's lags go by: the lag of the subframe before.
+/// What an erased frame's lags go by: the lag of the subframe before.
 #[derive(Clone, Copy)]
 pub struct PitchDecoder {
     pub previous: PitchLag,
 }
 
 impl Fraction {
-    // -1, 0 or 1.
+    /// -1, 0 or 1.
     pub fn thirds(self) -> i16
         ensures { result ≡ thirds_of self }
     {
@@ -60,7 +60,7 @@ fn least(previous: u16) -> u16
 }
 
 impl PitchLag {
-    // Subframes 0 and 2. Every index has a lag; which are sent is the frame call's business.
+    /// Subframes 0 and 2. Every index has a lag; which are sent is the frame call's business.
     #[tactic(auto, using(crate::proofs::Lags::absolute_below, crate::proofs::Lags::absolute_from))]
     pub fn from_absolute(index: u8) -> PitchLag
         ensures { lag_of result ≡ absolute (pos index) }
@@ -78,7 +78,7 @@ impl PitchLag {
         }
     }
 
-    // Subframes 1 and 3, after the lag of the subframe before.
+    /// Subframes 1 and 3, after the lag of the subframe before.
     pub fn from_relative(index: u8, previous: PitchLag) -> PitchLag
         ensures { lag_of result ≡ relative (pos index) (lag_of previous).samples }
     {
@@ -90,8 +90,7 @@ impl PitchLag {
 }
 
 impl PitchDecoder {
-    // A subframe of an erased frame: a sample more than the lag before, not raised from 143 on; fraction 0.
-    #[tactic(auto, using(crate::proofs::Lags::concealed_below, crate::proofs::Lags::concealed_from))]
+    /// A subframe of an erased frame: a sample more than the lag before, not raised from 143 on; fraction 0.
     pub fn conceal(self) -> PitchLag
         ensures { lag_of result ≡ concealed_lag (lag_of self.previous).samples }
     {

@@ -1,8 +1,8 @@
 -- The correlation of an impulse response: as a fold, and that it is at most the energy, both clamped, for every list of numbers.
 use Rattle.std.proofs.Common.{◌≡◌, refl, sym, ap, subst, ◌∙◌, Bool, true, false, List, [], ◌∷◌, ℕ, zero, suc, ◌+◌, ◌*◌, ◌-◌, ◌<◌, ◌≤◌, le_refl, arith, leb-true, leb-false, leb, lit<, length, take, drop, get_or, take-suc, ℤ, pos, negsuc, nat_abs, ◌+ℤ◌, ◌*ℤ◌, ◌≤ℤ◌, w16, w32, SFits}
 use mathlib.Core.List.{foldl, foldl-append}
-use lib.Seq.{take-length}
-use mir.Syntax.{Width}
+use Rattle.std.proofs.Math.Seq.{take-length}
+use Rattle.std.specs.Int.{Width}
 use Rattle.std.specs.List.{zip}
 use Rattle.std.proofs.lemmas.List.{get_or_default}
 use Rattle.std.proofs.lemmas.Slice.Zip.{length-zip, get_or-zip}

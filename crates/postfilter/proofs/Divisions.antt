@@ -1,6 +1,6 @@
 -- The postfilter of a frame tells as many quotients as `tilts_divide` and `controls_divide` say.
 use Rattle.std.proofs.Common.{◌≡◌, refl, ap, ap₂, ◌∙◌, Bool, true, false, List, ℕ, ◌+◌, arith, ℤ, pos, length, length-append}
-use lib.Signed.{le_z}
+use Rattle.std.specs.Int.Signed.{le_z}
 use Rattle.lists.specs.Lists.{iter, one_if, count}
 use Rattle.basicop.proofs.Tests.{yes_less, no_less, at_most_yes, at_most_no}
 use Rattle.lpc.specs.declared.Rows.{Rows}

@@ -1,6 +1,6 @@
 -- The impulse response: how the code comes by it, and its first sample.
 use Rattle.std.proofs.Common.{ℕ, zero, suc, ◌-◌, ◌<◌, ◌≡◌, refl, sym, ◌∙◌, List, [], ◌∷◌, ◌++◌, append_assoc, add-zero, arith, lit<, ℤ, pos, ◌-ℤ◌, ◌*ℤ◌, length, take, replicate, length-append, take_at, get_or-take, get_or-drop, w32, SFits}
-use lib.Seq.{get_or_at}
+use Rattle.std.proofs.Math.Seq.{get_or_at}
 use Rattle.lists.specs.Lists.{at}
 use Rattle.basicop.specs.Ops.{clamp, asr, l_add, l_sub, l_mult, l_shl, round}
 use borrow.Author.Differences.{product_is}

@@ -1,6 +1,6 @@
 -- The residual's sum: where the row's weight is below 32768 no step clamps.
 use Rattle.std.proofs.Common.{ℕ, suc, ◌+◌, ◌*◌, ◌-◌, ◌^◌, ◌≤◌, ◌<◌, ◌≡◌, sym, ◌∙◌, Bool, true, List, le_refl, add_comm, add-one, arith, ℤ, pos, nat_abs, length, take, drop, get_or-take, length-take-le}
-use lib.Signed.{mag, nat_abs-le}
+use Rattle.std.specs.Int.Signed.{mag, nat_abs-le}
 use Rattle.lists.specs.Lists.{at}
 use Rattle.lists.proofs.Entries.{at_drop}
 use Rattle.lists.proofs.Count.{Iter, iter_none, iter_more, iter_same}

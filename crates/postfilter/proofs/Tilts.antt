@@ -1,7 +1,7 @@
 -- The tilt: its division is in order, and it lies in 0..=26214, for every row.
 use Rattle.std.proofs.Common.{◌≡◌, refl, ap, ◌∙◌, Bool, true, false, cond, List, ℕ, ◌*◌, ◌/◌, ◌<◌, ◌≤◌, div-lt_iff_lt-mul, div-mul-le_self, arith, lit<, ℤ, pos, negsuc, ◌≤ℤ◌, ◌<ℤ◌, w16, SFits}
-use native.Mathlib.Nat.{div-le_of_le-mul}
-use lib.Signed.{le_z, le_z_yes}
+use Rattle.std.proofs.Math.Nat.{div-le_of_le-mul}
+use Rattle.std.specs.Int.Signed.{le_z, le_z_yes}
 use Rattle.lists.specs.Lists.{at, Every}
 use Rattle.basicop.specs.Ops.{asr, mult, div_s}
 use Rattle.basicop.specs.Divided.{Divided, undivided, divided, Divides}

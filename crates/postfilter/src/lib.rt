@@ -7,18 +7,20 @@ ghost use Rattle.postfilter.specs.Residual.{residual};
 ghost use Rattle.postfilter.specs.Preemphasis.{emphasised, preemphasised};
 ghost use Rattle.postfilter.specs.Postfilter.{filter_result, postfilter_result};
 
+mod laws;
 mod tilting;
 mod whitening;
 
 use basicop::{Q15, mult, sub};
 use copy::stretch;
-use energy::{Controlled, GainControl};
+use energy::GainControl;
+pub use laws::{frame_tilts, tilt_range};
 use lpc::Rows;
 use synthesis::Filtered;
 use tilting::{impulse, tilt_of};
 use whitening::{residual, weight};
 
-// What a subframe leaves to the next: its last ten inputs, the last ten samples of its second synthesis, its last residual, and the smoothed gain.
+/// What a subframe leaves to the next: its last ten inputs, the last ten samples of its second synthesis, its last residual, and the smoothed gain.
 #[derive(Clone, Copy, Default)]
 pub struct Postfilter {
     pub input_history: [i16; 10],
@@ -27,7 +29,7 @@ pub struct Postfilter {
     pub gain: GainControl,
 }
 
-// N samples, of a subframe or of a frame, and the memory after them.
+/// N samples, of a subframe or of a frame, and the memory after them.
 #[derive(Drop)]
 pub struct Postfiltered<const N: usize> {
     pub samples: [i16; N],
@@ -94,7 +96,7 @@ fn filter(memory: Postfilter, coefficients: [i16; 11], samples: [i16; 40]) -> Po
         input_history,
         synthesis_history,
         previous_residual,
-        gain,
+        mut gain,
     } = memory;
     let numerator = weight(coefficients, &NUMERATOR);
     let denominator = weight(coefficients, &DENOMINATOR);
@@ -107,10 +109,7 @@ fn filter(memory: Postfilter, coefficients: [i16; 11], samples: [i16; 40]) -> Po
         samples: unscaled,
         history: synthesis_history,
     } = synthesis::filter(denominator, fed, synthesis_history);
-    let Controlled {
-        samples: scaled,
-        control: gain,
-    } = energy::control_gain(gain, samples, unscaled);
+    let scaled = energy::process(&mut gain, samples, unscaled);
     let input_history = synthesis::newest(samples);
     Postfiltered {
         samples: scaled,
@@ -124,7 +123,7 @@ fn filter(memory: Postfilter, coefficients: [i16; 11], samples: [i16; 40]) -> Po
 }
 
 // ---- a frame
-// Post_Filter over the four subframes of a frame, from its rows and synthesis samples.
+/// Post_Filter over the four subframes of a frame, from its rows and synthesis samples.
 pub fn process(memory: Postfilter, samples: [i16; 160], rows: Rows) -> Postfiltered<160>
     ensures { result ≡ (postfilter_result memory rows samples).output }
 {

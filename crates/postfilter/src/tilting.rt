@@ -5,7 +5,7 @@ ghost use Rattle.postfilter.specs.Tilt.{impulse, correlation, tilt_of};
 use basicop::{Q15, div_s, extract_h, l_mac, mult};
 use copy::padded;
 
-// The impulse response.
+/// The impulse response.
 pub fn impulse(numerator: [i16; 11], denominator: [i16; 11]) -> [i16; 22]
     ensures { result ≡ impulse numerator denominator }
 {
@@ -20,7 +20,7 @@ fn correlation(h: [i16; 22]) -> i32
     h.iter().zip(&h[1..]).fold(0, |s, (a, b)| l_mac(s, *a, *b))
 }
 
-// 26214 is 0.8 (Q15). The correlation is at most the energy, so that the division is in order: `tilt_asks`.
+/// 26214 is 0.8 (Q15). The correlation is at most the energy, so that the division is in order: `tilt_asks`.
 pub fn tilt_of(h: [i16; 22]) -> Q15
     ensures { result.0 ≡ (tilt_of h).value }
 {

@@ -9,7 +9,7 @@ use std::array;
 use synthesis::Row;
 
 // ---- Weight_Ai
-// Each coefficient but the first by its factor.
+/// Each coefficient but the first by its factor.
 pub fn weight(coefficients: [i16; 11], factors: &[i16; 10]) -> [i16; 11]
     ensures { result ≡ weighted coefficients factors.now }
 {
@@ -39,7 +39,7 @@ fn residual_at(row: &Row, x: &[i16; 11]) -> i16
     round(l_shl(residual_sum(row, x), 3))
 }
 
-// Residu: the residual of forty samples, after the ten before them.
+/// Residu: the residual of forty samples, after the ten before them.
 pub fn residual(numerator: [i16; 11], history: [i16; 10], samples: [i16; 40]) -> [i16; 40]
     ensures { result ≡ residual numerator (history ++ samples) }
 {

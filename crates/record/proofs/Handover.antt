@@ -1,5 +1,5 @@
 -- Reader and writer together: the statements of specs/Handover.antt.
-use Rattle.std.proofs.Common.{◌≡◌, refl, ap, ap₂, sym, ◌∙◌, true, List, [], ◌++◌, append_assoc, append-nil, ℕ, ◌+◌, ◌-◌, arith, ltb, ℤ, length, take, drop, length-append, take_at, drop_at, le-ltb}
+use Rattle.std.proofs.Common.{◌≡◌, refl, subst, take_all, ap, ap₂, sym, ◌∙◌, true, List, [], ◌++◌, append_assoc, append-nil, ℕ, ◌+◌, ◌-◌, arith, ltb, ℤ, length, take, drop, length-append, take_at, drop_at, le-ltb}
 use Rattle.std.specs.Prelude.{Ok}
 use Rattle.basicop.specs.Words.{Words}
 use Rattle.outcome.specs.declared.Refusal.TheVariants.{RecordShort}
@@ -10,15 +10,17 @@ use Rattle.state.specs.declared.State.{State}
 use Rattle.state.specs.State.{WellFormed, state_checks, state_outcome}
 use Rattle.state.specs.Layout.{numbers_of, state_of}
 use Rattle.state.proofs.Numbers.{state_of_numbers, numbers_words}
+use Rattle.state.proofs.Taken.{numbers_well_formed}
+use Rattle.state.proofs.Checks.{in_range, in_range_accepted}
 use Rattle.coding.specs.Bytes.{words, bytes_of}
 use Rattle.record.specs.Record.{Trailer, current, first, versions, trailer_of, field_at, end_of, trailer_in, distance_of, note_length, numbers_in, trailer_checks, body_checks, byte_checks, record_outcome, read_result, read_call, trailer_bytes, encoded}
-use Rattle.record.specs.Handover.{ReadBack, SameOutcome, FirstRead, FirstOutcome, SameRest}
+use Rattle.record.specs.Handover.{ReadBack, SameOutcome, FirstRead, FirstOutcome, SameRest, rest_by, RecordBack, WrittenBack, ReadFormed}
 use Rattle.coding.proofs.Bytes.{words_back}
 use Rattle.record.proofs.Trailers.{Readable, current_readable, first_readable}
-use Rattle.record.proofs.Reader.{body_found, outcome_is}
+use Rattle.record.proofs.Reader.{body_found, state_passes, outcome_is, state_accepted}
 use Rattle.coding.proofs.Laid.{bytes_length}
 use Rattle.record.proofs.Writer.{trailer_length}
-use Rattle.record.proofs.Rest.{rest_by, rest_is}
+use Rattle.record.proofs.Rest.{rest_is, record_is, numbers_fit}
 
 -- ---- a note, numbers and the trailer of a version
 module _ (t : Trailer) (version : Readable t) (xs : List ℤ) (w : Words t.count xs) (note : List ℕ) where
@@ -106,3 +108,26 @@ first_outcome xs w note = outcome_is (note ++ (bytes_of xs ++ trailer_bytes firs
 pub same_rest : SameRest
 same_rest b c bytes bytes' y y' v e =
     rest_is b bytes (rw (outcome_is b) at y) ∙ ap₂ (λ (n : ℕ) (s : State). rest_by (trailer_of n versions) s) v e ∙ sym (rest_is c bytes' (rw (outcome_is c) at y'))
+
+-- ---- records and the states in them
+pub record_back : RecordBack
+record_back b bytes y = record_is b bytes (rw (outcome_is b) at y)
+
+pub read_formed : ReadFormed
+read_formed b bytes y =
+    let a = rw (outcome_is b) at y in
+    let s = state_of (numbers_in b) in
+    let passes = in_range_accepted s (in_range s (state_passes b a)) in (
+      subst WellFormed (state_accepted b a) (numbers_well_formed (numbers_in b) (numbers_fit b bytes a)),
+      subst (λ (r : State). state_outcome r ≡ Ok tt) (state_accepted b a) passes,
+    )
+
+pub written_back : WrittenBack
+unfolding encoded
+written_back b bytes y v =
+    let r = read_call b in
+    let s = r.answer.state in
+    let all : take 213 (numbers_of s) ≡ numbers_of s = let n = (numbers_words s (read_formed b bytes y).0).count in take_all 213 (numbers_of s) (omega (arith, n)) in
+    ap (λ (xs : List ℤ). r.note ++ (bytes_of xs ++ trailer_bytes current)) (sym all)
+    ∙ ap (λ (n : ℕ). r.note ++ rest_by (trailer_of n versions) s) (sym v)
+    ∙ record_back b bytes y

@@ -96,6 +96,10 @@ module _ (b : List ℕ) where
   unfolding record_outcome
   bytes_accepted y = (both_accept (byte_checks b) (state_checks (state_of (numbers_in b))) y).0
 
+  pub state_passes : is_accepted (record_outcome b) ≡ true → is_accepted (first_met (state_checks (state_of (numbers_in b)))) ≡ true
+  unfolding record_outcome
+  state_passes y = (both_accept (byte_checks b) (state_checks (state_of (numbers_in b))) y).1
+
   -- ---- the call, of what its outcome is found to be
   pub read_refused : {r : Refusal} → record_outcome b ≡ Err r → {a : Answer} → a ≡ refused_answer (Err r) → read_result a [] ≡ read_call b
   unfolding read_call

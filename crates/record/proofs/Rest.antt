@@ -1,14 +1,16 @@
 -- What stands behind the note of an accepted record is its state's numbers and its version's trailer.
-use Rattle.std.proofs.Common.{◌≡◌, ap, ap₂, sym, ◌∙◌, true, List, [], ◌∷◌, ◌++◌, ℕ, zero, suc, ◌+◌, ◌-◌, ◌*◌, arith, ℤ, length, take, drop, length-append, length-drop, take-append-drop, drop-drop, get_or-drop, length-take-le, take_at}
+use Rattle.std.proofs.Common.{◌≡◌, refl, subst, ap, ap₂, sym, ◌∙◌, true, List, [], ◌∷◌, ◌++◌, ℕ, zero, suc, ◌+◌, ◌-◌, ◌*◌, arith, ℤ, length, take, drop, length-append, length-drop, take-append-drop, drop-drop, get_or-drop, length-take-le, take_at}
 use Rattle.outcome.specs.Outcome.{is_accepted}
 use Rattle.outcome.specs.Checks.{first_met}
-use Rattle.state.specs.declared.State.{State}
 use Rattle.state.specs.Layout.{state_count, numbers_of}
 use Rattle.state.proofs.Numbers.{numbers_of_state}
 use Rattle.coding.specs.Bytes.{words, bytes_of, Bytes}
-use Rattle.record.specs.Record.{Trailer, end_of, trailer_in, note_length, numbers_in, trailer_checks, record_outcome, read_call, trailer_bytes}
+use Rattle.record.specs.Record.{Trailer, end_of, trailer_in, note_length, numbers_in, trailer_checks, record_outcome, read_call}
+use Rattle.record.specs.Handover.{rest_by}
 use Rattle.coding.proofs.Bytes.{bytes_back}
-use Rattle.coding.proofs.Words.{words_length}
+use Rattle.coding.proofs.Words.{words_length, words_of}
+use Rattle.basicop.specs.Words.{Words}
+use Rattle.basicop.proofs.Words.{words_append}
 use Rattle.record.proofs.Trailers.{Readable, readable, trailer_is}
 use Rattle.record.proofs.Reader.{bytes_accepted, trailer_accepted, whole, note_accepted, state_accepted}
 
@@ -23,10 +25,6 @@ drop_bytes : (n : ℕ) (b : List ℕ) → Bytes b → Bytes (drop n b)
 drop_bytes n b f i = rw (get_or-drop n b i 0) (f (n + i))
 
 -- ---- an accepted record, behind its note
--- a state's numbers as far as a version has them, and its trailer
-abbrev pub rest_by : Trailer → State → List ℕ
-rest_by t s = bytes_of (take t.count (numbers_of s)) ++ trailer_bytes t
-
 module _ (b : List ℕ) (bytes : Bytes b) (y : is_accepted (record_outcome b) ≡ true) where
   abbrev t : Trailer
   t = trailer_in b
@@ -68,3 +66,15 @@ module _ (b : List ℕ) (bytes : Bytes b) (y : is_accepted (record_outcome b) �
       ap (λ (n : ℕ). drop n b) note_is
       ∙ rest_parts
       ∙ ap₂ ◌++◌ (sym body_bytes ∙ ap bytes_of (sym numbers_here)) (trailer_is (end_of b) shown (length-drop (length b - 8) b ∙ omega (arith, long)) (drop_bytes (length b - 8) b bytes))
+
+  -- behind its note
+  pub record_is : (read_call b).note ++ rest_by t (read_call b).answer.state ≡ b
+  record_is =
+      let front : (read_call b).note ≡ take (length (read_call b).note) b = sym (note_accepted b y) ∙ ap (λ (n : ℕ). take n b) (sym note_is) in
+      ap₂ ◌++◌ front (sym rest_is) ∙ take-append-drop (length (read_call b).note) b
+
+  -- and its numbers have 16 bits
+  pub numbers_fit : Words state_count (numbers_in b)
+  numbers_fit =
+      let own = words_of t.count body body_length_lem (take_bytes t.distance (drop (note_length b) b) (drop_bytes (note_length b) b bytes)) in
+      subst (λ (n : ℕ). Words n (numbers_in b)) version.whole (words_append (words body) t.missing own (record { count = refl; fit = version.fit }))

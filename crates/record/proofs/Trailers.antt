@@ -1,8 +1,10 @@
 -- The versions, and the last 8 bytes of a record.
-use Rattle.std.proofs.Common.{◌≡◌, refl, sym, ◌∙◌, subst, Bool, true, false, cond, List, [], ◌∷◌, ℕ, ◌+◌, ◌*◌, ◌/◌, ◌%◌, ◌<◌, arith, T, eqb, length, get_or, eqb-true}
+use Rattle.std.proofs.Common.{◌≡◌, refl, sym, ◌∙◌, subst, Bool, true, false, cond, List, [], ◌∷◌, replicate, lit<, pos, w16, SFits, zero, suc, ℕ, ◌+◌, ◌*◌, ◌/◌, ◌%◌, ◌<◌, arith, T, eqb, length, get_or, eqb-true}
 use borrow.Author.Tests.{not-false}
 use Rattle.std.proofs.lemmas.Bool.{and_parts}
-use Rattle.lists.specs.Lists.{Every}
+use Rattle.lists.specs.Lists.{at, Every}
+use Rattle.basicop.proofs.Words.{zero_fits}
+use Rattle.coding.specs.Body.{missing}
 use Rattle.outcome.specs.Outcome.{is_accepted}
 use Rattle.outcome.specs.Checks.{first_met}
 use Rattle.outcome.proofs.Checks.{none_met}
@@ -11,27 +13,37 @@ use Rattle.coding.specs.Bytes.{bytes_of, Bytes}
 use Rattle.record.specs.Record.{Trailer, current, first, versions, known, trailer_of, field_at, trailer_checks, trailer_bytes}
 
 -- ---- the versions
--- the trailers as document 02 has them
+-- the trailers as they are written
 pub trailers_are :
     (trailer_bytes current ≡ 0x4D ∷ 0x37 ∷ 0x02 ∷ 0x00 ∷ 0xAA ∷ 0x01 ∷ 0xD5 ∷ 0x00 ∷ [])
     × (trailer_bytes first ≡ 0x4D ∷ 0x37 ∷ 0x01 ∷ 0x00 ∷ 0x8A ∷ 0x01 ∷ 0xC5 ∷ 0x00 ∷ [])
 unfolding bytes_of
 trailers_are = (refl, refl)
 
--- two bytes for each number; with those that are missing, as many as a state has; and its trailer is read as this version's
+zeros_fit : (n i : ℕ) → SFits w16 (at (replicate n (pos 0)) i)
+zeros_fit zero i = zero_fits
+zeros_fit (suc n) zero = zero_fits
+zeros_fit (suc n) (suc i) = zeros_fit n i
+
+missing_fit : (i : ℕ) → SFits w16 (at missing i)
+missing_fit zero = record { sfits = lit< tt }
+missing_fit (suc i) = zeros_fit 15 i
+
+-- two bytes for each number; with those that are missing, which have 16 bits, as many as a state has; and its trailer is read as this version's
 pub record Readable (t : Trailer) : Type 0 where
   pub twice : t.distance ≡ 2 * t.count
   pub whole : t.count + length t.missing ≡ state_count
+  pub fit : (i : ℕ) → SFits w16 (at t.missing i)
   pub right : is_accepted (first_met (trailer_checks (trailer_bytes t))) ≡ true
   pub found : trailer_of (field_at (trailer_bytes t) 2) versions ≡ t
 
 pub current_readable : Readable current
 unfolding first_met bytes_of
-current_readable = record { twice = refl; whole = refl; right = refl; found = refl }
+current_readable = record { twice = refl; whole = refl; fit = λ i. zero_fits; right = refl; found = refl }
 
 pub first_readable : Readable first
 unfolding first_met bytes_of
-first_readable = record { twice = refl; whole = refl; right = refl; found = refl }
+first_readable = record { twice = refl; whole = refl; fit = missing_fit; right = refl; found = refl }
 
 -- what holds of every trailer of a list holds of that of a version among them, which is this version's
 known_one : (P : Trailer → Type 0) (ts : List Trailer) → Every P ts → (v : ℕ) → known v ts ≡ true → P (trailer_of v ts) × ((trailer_of v ts).version ≡ v)

@@ -1,6 +1,6 @@
--- The handover record of document 01: a note of any length; a body of signed 16-bit numbers; a trailer of 8 bytes, which are
+-- The handover record (docs/BENCH.md, "Record"): a note of any length; a body of signed 16-bit numbers; a trailer of 8 bytes, which are
 -- the tag 4D 37, and, 16 bits each, version, distance back from the trailer to the body, and count of the body's numbers.
--- Versions 2 and 1 are read (document 02, 7/13).
+-- Versions 2 and 1 are read.
 use Rattle.std.specs.Prelude.{Bool, true, false, if◌then◌else◌, not, ◌&&◌, List, [], ◌∷◌, ◌++◌, ℕ, ◌+◌, ◌-◌, ◌*◌, ◌==◌, nat_lt, ℤ, pos}
 use Rattle.std.specs.Prelude.{length, take, drop, slice_index, replicate}
 use Rattle.outcome.specs.declared.Refusal.TheVariants.{OutputLength, RecordShort, Tag, Version, Layout, BodyShort}

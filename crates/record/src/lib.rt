@@ -4,6 +4,7 @@
 ghost use Rattle.std.specs.Prelude.{◌≡◌, Ok, Err};
 ghost use Rattle.outcome.specs.Checks.{Checked};
 ghost use Rattle.state.specs.Layout.{state_of};
+ghost use Rattle.record.specs.Handover.{ReadBack, SameOutcome, FirstRead, FirstOutcome, SameRest, RecordBack, WrittenBack, ReadFormed};
 ghost use Rattle.record.specs.Record.{current, note_length, numbers_in, record_outcome, refused_answer, read_call, read_result, trailer_bytes, encoded, write_result, write_call};
 
 mod checks;
@@ -123,3 +124,15 @@ pub fn write(state: State, out: &mut [u8]) -> Outcome
     write_record(state, record);
     Ok(())
 }
+
+/// What holds of reader and writer together, of any record and any state.
+pub fn round_trips()
+    ensures read_back { ReadBack }
+    ensures same_outcome { SameOutcome }
+    ensures first_read { FirstRead }
+    ensures first_outcome { FirstOutcome }
+    ensures same_rest { SameRest }
+    ensures record_back { RecordBack }
+    ensures written_back { WrittenBack }
+    ensures read_formed { ReadFormed }
+{}

@@ -4,7 +4,7 @@ ghost use Rattle.record.specs.Record.{versions, known, trailer_of};
 ghost use Rattle.record.specs.Inner.{trailer_by};
 
 use coding::{BODY_BYTES, SIGNAL_BYTES};
-use state::{CORE_NUMBERS, NUMBERS, POST_NUMBERS};
+use state::{NUMBERS, SIGNAL_NUMBERS};
 
 // The version that is written, which has every field of a state, and the first, which ends with the postfilter's.
 #[derive(Clone, Copy)]
@@ -41,7 +41,7 @@ impl Version {
     {
         match self {
             Version::Current => NUMBERS,
-            Version::First => CORE_NUMBERS + POST_NUMBERS,
+            Version::First => SIGNAL_NUMBERS,
         }
     }
 }

@@ -1,10 +1,10 @@
 // The stages of erased frames on their records: lags, energies, and the gains of erased frames and of good ones. Inputs, then the answers of the reference.
 use super::stages::lag_agrees;
-use super::words::Reader;
 use basicop::{Gains, Q1, Q14};
 use gain::GainDecoder;
 use gain_concealment::{GainConcealment, UsedGains};
 use pitch::{Fraction, PitchDecoder, PitchLag};
+use recorded::Reader;
 
 // The lags of four subframes, each after the one before.
 pub fn pitch(record: &mut Reader) -> Option<bool> {

@@ -1,9 +1,9 @@
 // The frame call of an erased sheet on its records, and the calls of all three kinds of sheets on theirs. Inputs, then the answers of the reference.
-use super::compare::{energies_agree, refusal_agrees};
-use super::words::Reader;
+use super::frames::{given, refusal};
 use coding::BODY_BYTES;
 use gain::GainDecoder;
 use mr74::{ERASED_SHEET, EnergiesAnswer, INDEX_SHEET};
+use recorded::{Reader, energies_agree, energies_refusal_agrees};
 
 // A whole frame of an erased sheet.
 pub fn frame(record: &mut Reader) -> Option<bool> {
@@ -14,7 +14,7 @@ pub fn frame(record: &mut Reader) -> Option<bool> {
     };
     let mut samples = [0; 160];
     let answer = mr74::frame_erased(&sheet, state, decoder, &mut samples);
-    energies_agree(record, &answer, samples)
+    energies_agree(record, &given(&answer.frame, samples), answer.gain_decoder.energies)
 }
 
 // A frame of the recorded kind of sheet: 0 frame sheet, 1 index sheet, 2 erased sheet. Energies that a call does not take are those after it.
@@ -43,7 +43,7 @@ pub fn mixed(record: &mut Reader) -> Option<bool> {
         }
         _ => return Some(false),
     };
-    energies_agree(record, &answer, samples)
+    energies_agree(record, &given(&answer.frame, samples), answer.gain_decoder.energies)
 }
 
 // A refused call of an erased sheet, which gives the energies as they came.
@@ -60,5 +60,11 @@ pub fn refused(record: &mut Reader) -> Option<bool> {
         GainDecoder { energies },
         lent.get_mut(..room)?,
     );
-    Some(refusal_agrees(record, &answer.frame, before, lent)? && answer.next.energies == energies)
+    energies_refusal_agrees(
+        record,
+        &refusal(&answer.frame, lent),
+        before,
+        answer.gain_decoder.energies,
+        energies,
+    )
 }

@@ -1,7 +1,7 @@
 // Stages on their records: energy and gains, synthesis and postfilter. Inputs, then the answers of the reference.
-use super::words::Reader;
 use coding::POST_BYTES;
 use energy::GainControl;
+use recorded::Reader;
 
 pub fn energy(record: &mut Reader) -> Option<bool> {
     let energy = energy::energy(record.numbers()?);

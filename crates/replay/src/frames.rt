@@ -1,7 +1,29 @@
 // The frame call on its records: what the call is given, then the answers of the reference.
-use super::compare::{frame_agrees, refusal_agrees};
-use super::words::Reader;
 use coding::BODY_BYTES;
+use mr74::FrameAnswer;
+use recorded::{Frame, Reader, Refused, frame_agrees, refusal_agrees};
+
+// What a call has given, with the samples that it was lent.
+pub fn given(answer: &FrameAnswer, samples: [i16; 160]) -> Frame {
+    Frame {
+        outcome: answer.outcome,
+        samples,
+        places: answer.places,
+        rows: answer.rows,
+        next: answer.next,
+    }
+}
+
+// What a refused call has given, with what it was lent.
+pub fn refusal(answer: &FrameAnswer, lent: [i16; 200]) -> Refused {
+    Refused {
+        outcome: answer.outcome,
+        places: answer.places,
+        rows: answer.rows,
+        next: answer.next,
+        lent,
+    }
+}
 
 // A whole frame.
 pub fn frame(record: &mut Reader) -> Option<bool> {
@@ -9,7 +31,7 @@ pub fn frame(record: &mut Reader) -> Option<bool> {
     let state = coding::state_in(record.array::<BODY_BYTES>()?);
     let mut samples = [0; 160];
     let answer = mr74::frame(&sheet, state, &mut samples);
-    frame_agrees(record, &answer, samples)
+    frame_agrees(record, &given(&answer, samples))
 }
 
 // A refused call.
@@ -24,5 +46,5 @@ pub fn refused(record: &mut Reader) -> Option<bool> {
         coding::state_in(before),
         lent.get_mut(..room)?,
     );
-    refusal_agrees(record, &answer, before, lent)
+    refusal_agrees(record, &refusal(&answer, lent), before)
 }

@@ -1,9 +1,9 @@
 // Gains from their index on their records: the call of an index, and the frame call of an index sheet. Inputs, then the answers of the reference.
-use super::compare::{energies_agree, outcome_agrees, refusal_agrees};
-use super::words::Reader;
+use super::frames::{given, refusal};
 use basicop::Q13;
 use coding::BODY_BYTES;
 use gain::GainDecoder;
+use recorded::{Reader, energies_agree, energies_refusal_agrees, gains_refusal_agrees};
 
 // Gains and energies of an accepted call.
 pub fn decode(record: &mut Reader) -> Option<bool> {
@@ -20,7 +20,7 @@ pub fn decode(record: &mut Reader) -> Option<bool> {
         answer.outcome.is_ok()
             && record.number()? == gains.pitch.0
             && record.number()? == gains.code.0
-            && record.numbers()? == gains.next.energies,
+            && record.numbers()? == answer.gain_decoder.energies,
     )
 }
 
@@ -39,11 +39,12 @@ pub fn refused(record: &mut Reader) -> Option<bool> {
         pows.get(..m)?,
     );
     let gains = answer.gains;
-    Some(
-        outcome_agrees(record, answer.outcome)?
-            && gains.pitch.0 == 0
-            && gains.code.0 == 0
-            && gains.next.energies == energies,
+    gains_refusal_agrees(
+        record,
+        answer.outcome,
+        [gains.pitch.0, gains.code.0],
+        answer.gain_decoder.energies,
+        energies,
     )
 }
 
@@ -58,7 +59,7 @@ pub fn frame(record: &mut Reader) -> Option<bool> {
     };
     let mut samples = [0; 160];
     let answer = mr74::frame_indexed(&sheet, state, &logs, &pows, decoder, &mut samples);
-    energies_agree(record, &answer, samples)
+    energies_agree(record, &given(&answer.frame, samples), answer.gain_decoder.energies)
 }
 
 // A refused call of an index sheet, which gives the energies as they came.
@@ -81,5 +82,11 @@ pub fn refused_frame(record: &mut Reader) -> Option<bool> {
         GainDecoder { energies },
         lent.get_mut(..room)?,
     );
-    Some(refusal_agrees(record, &answer.frame, before, lent)? && answer.next.energies == energies)
+    energies_refusal_agrees(
+        record,
+        &refusal(&answer.frame, lent),
+        before,
+        answer.gain_decoder.energies,
+        energies,
+    )
 }

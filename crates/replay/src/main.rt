@@ -4,7 +4,6 @@
 
 ghost use Rattle.std.specs.Prelude.{◌≤◌};
 
-mod compare;
 mod concealment;
 mod erased;
 mod filters;
@@ -12,12 +11,11 @@ mod frames;
 mod gains;
 mod records;
 mod stages;
-mod words;
 
+use recorded::{Reader, is_whole};
 use std::io::Read;
 use std::rt::Files;
 use std::{fs, io};
-use words::Reader;
 
 #[derive(Drop)]
 struct Counts {
@@ -41,7 +39,8 @@ fn record_agrees<R: Read, F: Fn(&mut Reader) -> Option<bool>>(
         return Ok(Some(false));
     }
     let mut record = Reader::new(bytes);
-    Ok(Some(agrees(&mut record) == Some(true) && record.is_empty()))
+    let agreed = agrees(&mut record);
+    Ok(Some(is_whole(agreed, &record)))
 }
 
 // All the records of a file, at most a million: nothing says that a file ends.

@@ -1,11 +1,12 @@
 // The handover record's calls on their records: what the call is given, then the answers of the reference.
-ghost use Rattle.std.specs.Prelude.{◌<◌, length};
+ghost use Rattle.std.specs.Prelude.{◌↔◌, ◌-◌, ◌<◌, IsTrue, length, take, drop};
+ghost use Rattle.record.specs.Record.{read_call};
+ghost use Rattle.recorded.specs.Compare.{IsCutRefused};
 
-use super::compare::{outcome_agrees, state_same};
-use super::words::Reader;
 use coding::{BODY_BYTES, SIGNAL_BYTES};
-use outcome::{Outcome, Refusal};
+use outcome::Outcome;
 use record::{FIRST_RECORD_BYTES, RECORD_BYTES};
+use recorded::{Reader, outcome_agrees, state_same};
 
 // Refusal and place, note's length and state that the reader gives.
 pub fn record_read(record: &mut Reader) -> Option<bool> {
@@ -35,17 +36,15 @@ pub fn record_write(record: &mut Reader) -> Option<bool> {
     Some(told && lent == expected)
 }
 
-// The first n and the last n bytes of a record of zeros: both are under 8 bytes, or the first lack the tag and the last the body.
+// Whether the first n and the last n bytes of a record of zeros are refused as they should be.
 fn cut_refused(zeros: &[u8], n: usize) -> bool
     requires { n < length zeros.now }
+    ensures { IsTrue result
+        ↔ IsCutRefused n (read_call (take n zeros.now)).answer.outcome (read_call (drop (length zeros.now - n) zeros.now)).answer.outcome }
 {
     let first = record::answer_of(&zeros[..n]).outcome;
     let last = record::answer_of(&zeros[zeros.len() - n..]).outcome;
-    if n < 8 {
-        first == Err(Refusal::RecordShort) && last == Err(Refusal::RecordShort)
-    } else {
-        first == Err(Refusal::Tag) && last == Err(Refusal::BodyShort)
-    }
+    recorded::cut_refused(n, first, last)
 }
 
 // How many lengths below a record's give another refusal.

@@ -1,7 +1,6 @@
 // Stages on their records: spectrum, rows, lags and prediction. Inputs, then the answers of the reference.
-use super::compare::rows_same;
-use super::words::Reader;
 use pitch::{Fraction, PitchLag};
+use recorded::{Reader, rows_same};
 
 #[tactic(auto, using(outcome::proofs::Ranges::none_found, outcome::proofs::Ranges::in_range_all))]
 pub fn lsp(record: &mut Reader) -> Option<bool> {

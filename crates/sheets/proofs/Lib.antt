@@ -1,5 +1,5 @@
 -- Opening: the first step, and the frame call of a sheet's bytes. Pieces: the sheets of an input, one by one. Taken: what came of an input that is read
--- in turns. Rounds: what the rounds of a loop over an input have done, and what is still to come.
+-- in turns. Rounds: what the rounds of a program over an input have made, and what is still to come.
 pub mod Opening
 pub mod Pieces
 pub mod Rounds

@@ -1,7 +1,5 @@
--- What a program of the bench reads: a version 1 record, then sheets one by one. Document 01, "The bench program's lines".
-use Rattle.std.specs.Prelude.{Bool, true, false, if◌then◌else◌, List, [], ℕ, ◌+◌, ◌/◌, pos, length, replicate}
-use Rattle.std.specs.declared.ops.ControlFlow.{ControlFlow}
-use Rattle.std.specs.declared.ops.ControlFlow.TheVariants.{Continue, Break}
+-- What a program of the bench reads: a version 1 record, then sheets one by one. docs/BENCH.md, "Bench program".
+use Rattle.std.specs.Prelude.{if◌then◌else◌, List, [], ℕ, ◌+◌, ◌/◌, pos, length, replicate, Option, Some, None}
 use Rattle.lists.specs.Parts.{cut}
 use Rattle.state.specs.declared.State.{State}
 use Rattle.outcome.specs.Outcome.{number_of, is_accepted}
@@ -27,25 +25,12 @@ sheets_of bytes = cut (replicate ((length bytes + 363) / 364) sheet_bytes) bytes
 unfoldable pub sheet_call : List ℕ → State → CallResult
 sheet_call bytes s = frame_call (words bytes) s (replicate 160 (pos 0))
 
--- ---- what a step of a program comes to: what it prints, the state for the next sheet, and whether there is a next step
-pub record StepResult : Type 0 where
-  pub line : List ℕ
-  pub next : State
-  pub more : Bool
+-- a step of a program makes something, and carries something to the next one, where there is a next one
+abbrev pub step_result : {A C : Type 0} → A → Option C → Step A C
+step_result made next = record { made = made; next = next }
 
-abbrev pub step_result : List ℕ → State → Bool → StepResult
-step_result line next more = record { line = line; next = next; more = more }
-
--- ---- what a step of the code tells: what it made, the state for the next step, and whether there is one
-abbrev pub told_by : {R : Type 0} → (State → Bool → R) → ControlFlow State State → R
-told_by make (Continue next) = make next true
-told_by make (Break last) = make last false
-
-abbrev pub told : {A R : Type 0} → (A → State → Bool → R) → Step A → R
-told make step = told_by (make step.made) step.next
-
--- ---- the first step, on the record as far as it came: a refused one is told, and nothing more
-unfoldable pub opening_step : List ℕ → StepResult
+-- the first step, on the record as far as it came: an accepted one makes no line, and its state is carried on; a refused one is told, and nothing comes after it
+unfoldable pub opening_step : List ℕ → Step (List ℕ) State
 opening_step bytes =
     let a = (read_call bytes).answer in
-    if is_accepted a.outcome then step_result [] a.state true else step_result (state_line (number_of a.outcome)) a.state false
+    if is_accepted a.outcome then step_result [] (Some a.state) else step_result (state_line (number_of a.outcome)) None

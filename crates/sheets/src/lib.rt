@@ -1,37 +1,68 @@
-// What a program of the bench reads: a version 1 record, then sheets one by one.
+//! What a program of the bench reads: a version 1 record, then sheets one by one.
 #![tactic(auto)]
 
-ghost use Rattle.std.specs.Prelude.{◌≡◌, ◌<◌, ◌^◌, ℕ, List, length, take, IfOk};
+ghost use Rattle.std.specs.Prelude.{◌≡◌, ◌≢◌, ◌<◌, ◌^◌, ℕ, List, length, take, IfOk, IfErr, OnOk};
 ghost use Rattle.std.specs.Fn.{FnOnceReturnsAt};
 ghost use Rattle.std.specs.Io.{ReadsAtMost};
+ghost use Rattle.std.specs.Io.KnownBytes.{ReadConsumes, Appends};
+ghost use Rattle.std.specs.IoError.{error_kind};
 ghost use Rattle.mr74.specs.Frame.{call_result};
-ghost use Rattle.sheets.specs.Sheets.{record_bytes, sheet_call, step_result, told, opening_step};
-ghost use Rattle.sheets.specs.Reading.{TakesFirst};
+ghost use Rattle.sheets.specs.Sheets.{record_bytes, sheet_call, opening_step};
+ghost use Rattle.sheets.specs.Reading.{TakesFirst, IsOfRead, IsOfWrite};
 
 use lines::Line;
 use mr74::{FrameAnswer, SAMPLES, SHEET, SHEET_BYTES};
 use record::{Answer, FIRST_RECORD_BYTES};
 use state::State;
 use std::io;
-use std::io::Read;
-use std::ops::ControlFlow;
+use std::io::{ErrorKind, Read, Write};
+use thiserror::Error;
 
-// What a step of a program makes, and whether there is a next one: it goes on with a state, or breaks off with the last.
+/// What a step of a program makes, and what it carries to the next one, where there is a next one.
 #[derive(Drop)]
-pub struct Step<T> {
+pub struct Step<T, C> {
     pub made: T,
-    pub next: ControlFlow<State, State>,
+    pub next: Option<C>,
+}
+
+/// Why a program of the bench stops before its end: what a read or a write answered.
+#[derive(Debug, Drop, Error)]
+pub enum ProgramError {
+    #[error("reading standard input: {0}")]
+    Read(io::Error),
+    #[error("writing standard output: {0}")]
+    Write(io::Error),
 }
 
 // ---- reading
-// Reads until the lent bytes are full or the input ends, and says how many came. Nothing beyond them is read.
+// One read; where a signal interrupts it, it is tried again.
+fn read_some<R: Read>(input: &mut R, bytes: &mut [u8]) -> io::Result<usize>
+    ensures bound { ReadsAtMost result bytes.new }
+    ensures bytes { ReadConsumes (R.remaining input.old) (R.remaining input.new) result bytes.new }
+    ensures retried { IfErr result (λ e. error_kind e ≢ ErrorKind.Interrupted) }
+{
+    for _ in 0..u64::MAX {
+        match input.read(bytes) {
+            Ok(n) => return Ok(n),
+            Err(error) => {
+                if error.kind() != ErrorKind::Interrupted {
+                    return Err(error);
+                }
+            }
+        }
+    }
+    Err(io::Error::from(ErrorKind::TimedOut))
+}
+
+/// Reads until the lent bytes are full or the input ends, and says how many came. Nothing beyond them is read.
 pub fn read_full<R: Read>(input: &mut R, bytes: &mut [u8]) -> io::Result<usize>
     ensures bound { ReadsAtMost result bytes.new }
     ensures first { IfOk result (λ n. TakesFirst (R.remaining input.old) (R.remaining input.new) (length bytes.new) (take n bytes.new)) }
+    ensures retried { IfErr result (λ e. error_kind e ≢ ErrorKind.Interrupted) }
 {
     let mut done = 0;
     while done < bytes.len() {
-        let n = input.read(&mut bytes[done..])?;
+        let n = read_some(input, &mut bytes[done..])?;
         if n == 0 {
             break;
         }
@@ -40,54 +71,70 @@ pub fn read_full<R: Read>(input: &mut R, bytes: &mut [u8]) -> io::Result<usize>
     Ok(done)
 }
 
-// Reads at most N bytes from the input, and takes a step on what came.
+/// Reads at most N bytes from the input, and takes a step on what came.
 pub fn on_bytes<const N: usize, R: Read, T, F: FnOnce(&[u8]) -> T>(
     input: &mut R,
     step: F,
-) -> io::Result<T>
+) -> Result<T, ProgramError>
     requires room { N < 2 ^ 63 }
     requires step { F.IsAlwaysCallable step }
-    ensures { IfOk result (λ made. (came : List ℕ) × TakesFirst (R.remaining input.old) (R.remaining input.new) N came × FnOnceReturnsAt F.FnOnce step came made) }
+    ensures made { IfOk result (λ made. (came : List ℕ) × TakesFirst (R.remaining input.old) (R.remaining input.new) N came × FnOnceReturnsAt F.FnOnce step came made) }
+    ensures err { IfErr result IsOfRead }
 {
     let mut bytes = [0u8; N];
-    let n = read_full(input, &mut bytes)?;
-    Ok(step(&bytes[..n]))
+    match read_full(input, &mut bytes) {
+        Ok(n) => Ok(step(&bytes[..n])),
+        Err(error) => Err(ProgramError::Read(error)),
+    }
+}
+
+// ---- writing
+/// Writes a line.
+pub fn write_line<W: Write>(output: &mut W, line: &Line) -> Result<(), ProgramError>
+    ensures ok { OnOk result (Appends (W.contents output.old) (W.contents output.new) line.now) }
+    ensures err { IfErr result IsOfWrite }
+{
+    match output.write_all(line.as_bytes()) {
+        Ok(()) => Ok(()),
+        Err(error) => Err(ProgramError::Write(error)),
+    }
 }
 
 // ---- the record
-// The first step, on the record as far as it came: a refused one is told, and nothing more.
-pub fn open_call(bytes: &[u8]) -> Step<Line>
-    ensures { told step_result result ≡ opening_step bytes.now }
+/// The first step, on the record as far as it came: a refused one is told, and nothing more.
+pub fn open_call(bytes: &[u8]) -> Step<Line, State>
+    ensures { result ≡ opening_step bytes.now }
 {
     let Answer { outcome, state } = record::answer_of(bytes);
     match outcome {
         Ok(()) => Step {
             made: Line::new(),
-            next: ControlFlow::Continue(state),
+            next: Some(state),
         },
         Err(refusal) => Step {
             made: lines::state_line(refusal.number()),
-            next: ControlFlow::Break(state),
+            next: None,
         },
     }
 }
 
-// Reads the record from the input, as many bytes as one of version 1 has, and takes the first step on what came of it.
-pub fn read_record<R: Read>(input: &mut R) -> io::Result<Step<Line>>
-    ensures { IfOk result (λ s. (came : List ℕ) × TakesFirst (R.remaining input.old) (R.remaining input.new) record_bytes came × (told step_result s ≡ opening_step came)) }
+/// Reads the record from the input, as many bytes as one of version 1 has, and takes the first step on what came of it.
+pub fn read_record<R: Read>(input: &mut R) -> Result<Step<Line, State>, ProgramError>
+    ensures step { IfOk result (λ s. (came : List ℕ) × TakesFirst (R.remaining input.old) (R.remaining input.new) record_bytes came × (s ≡ opening_step came)) }
+    ensures err { IfErr result IsOfRead }
 {
     on_bytes::<FIRST_RECORD_BYTES, _, _, _>(input, |bytes| open_call(bytes))
 }
 
 // ---- a sheet
-// What a sheet's frame call gives.
+/// What a sheet's frame call gives.
 #[derive(Drop)]
 pub struct Decoded {
     pub answer: FrameAnswer,
     pub samples: [i16; SAMPLES],
 }
 
-// The frame call of a sheet's bytes.
+/// The frame call of a sheet's bytes.
 #[tactic(auto, using(crate::proofs::Opening::sheet_called))]
 pub fn decode_bytes(bytes: &[u8; SHEET_BYTES], state: State) -> Decoded
     ensures { call_result result.answer result.samples ≡ sheet_call bytes.now state }

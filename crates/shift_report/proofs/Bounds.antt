@@ -1,8 +1,7 @@
 -- How large totals can be, by the count of accepted calls.
-use Rattle.std.proofs.Common.{ℕ, ◌*◌, ◌^◌, ◌≤◌, ◌≡◌, refl, Bool, true, false, List, [], ◌∷◌, arith, ℤ, nat_abs, length}
+use Rattle.std.proofs.Common.{ℕ, ◌*◌, ◌^◌, ◌≤◌, ◌≡◌, refl, Bool, true, false, List, [], ◌∷◌, arith, ℤ, length}
 use Rattle.lists.specs.Lists.{one_if}
 use Rattle.basicop.specs.Words.{Words}
-use Rattle.basicop.proofs.Range.{nat_abs_add}
 use Rattle.decoder.specs.Subframe.{flag_of}
 use Rattle.lines.specs.Lines.{peak_of}
 use Rattle.lines.proofs.Peaks.{peak_most}
@@ -27,7 +26,7 @@ module _ (xs : List ℤ) (w : Words 160 xs) where
   pub squares_of_frame : square_sum xs ≤ 160 * 2 ^ 30
   squares_of_frame = omega (arith, squares_most xs w.fit, w.count)
 
-  pub peak_of_frame : nat_abs (peak_of xs) ≤ 32768
+  pub peak_of_frame : peak_of xs ≤ 32768
   peak_of_frame = peak_most xs w.fit
 
 pub share_bounded : (b : Bool) (places : List ℕ) (xs : List ℤ) → (b ≡ true → (length places ≡ 4) × Words 160 xs) → Bounded (share_by b places xs)
@@ -47,5 +46,5 @@ bounded_plus a b h k =
     record {
       retried = omega (arith, h.retried, k.retried);
       squares = omega (arith, h.squares, k.squares);
-      peaks = omega (arith, h.peaks, k.peaks, nat_abs_add a.peaks b.peaks);
+      peaks = omega (arith, h.peaks, k.peaks);
     }

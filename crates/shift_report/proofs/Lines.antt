@@ -1,16 +1,16 @@
 -- The report's line, field by field.
-use Rattle.std.proofs.Common.{◌≡◌, List, [], ◌∷◌, ◌++◌, append_assoc, ℕ, eq-eqb, ne_eqb, ℤ}
-use Rattle.lines.specs.Lines.{decimal, integer, line_feed, field}
+use Rattle.std.proofs.Common.{◌≡◌, List, [], ◌∷◌, ◌++◌, append_assoc, ℕ, eq-eqb, ne_eqb}
+use Rattle.lines.specs.Lines.{decimal, line_feed, field}
 use Rattle.shift_report.specs.declared.Totals.{Totals}
 use Rattle.shift_report.specs.Report.{mean_of, none_word, mean_field, report_line}
 
 -- ---- the mean, or `none`
-module _ (sum : ℤ) (n : ℕ) where
+module _ (sum n : ℕ) where
   pub mean_none : n ≡ 0 → none_word ≡ mean_field sum n
   unfolding mean_field
   mean_none e = rw (eq-eqb n 0 e)
 
-  pub mean_some : (n ≡ 0 → ⊥) → integer (mean_of sum n) ≡ mean_field sum n
+  pub mean_some : (n ≡ 0 → ⊥) → decimal (mean_of sum n) ≡ mean_field sum n
   unfolding mean_field
   mean_some h = rw (ne_eqb n 0 h)
 

@@ -1,18 +1,17 @@
 -- Totals of one list after another are those of both together.
-use Rattle.std.proofs.Common.{ℕ, ◌+◌, ◌≡◌, refl, ap, ◌∙◌, Bool, true, false, not, List, [], ◌∷◌, ◌++◌, map, arith, zero-add, add-zero, add_assoc, length, ℤ, ◌+ℤ◌}
+use Rattle.std.proofs.Common.{ℕ, ◌+◌, ◌≡◌, refl, sym, ap, ◌∙◌, Bool, true, false, not, List, [], ◌∷◌, ◌++◌, map, arith, zero-add, add-zero, add_assoc, length}
 use mathlib.Core.List.{map-append}
-use lib.IntN.{+ℤ_idl, +ℤ_idr, +ℤ_assoc}
-use Rattle.lists.specs.Lists.{one_if, count, selected, total_z}
+use Rattle.lists.specs.Lists.{one_if, count, selected}
 use Rattle.lists.specs.Parts.{total}
-use Rattle.lists.proofs.Sums.{count_append, total_append, total_z_append, selected_append}
+use Rattle.lists.proofs.Sums.{count_append, total_append, selected_append}
 use Rattle.mr74.specs.Frame.{Trace}
 use Rattle.calls.specs.Calls.{accepted}
 use Rattle.shift_report.specs.declared.Totals.{Totals}
-use Rattle.shift_report.specs.Totals.{accepted_count, refused_count, retried_total, square_sum, square_total, peak_total, totals_of}
-use Rattle.shift_report.specs.Steps.{plus, sheets_counted}
+use Rattle.shift_report.specs.Totals.{accepted_count, refused_count, retried_total, square_total, peak_total, totals_of}
+use Rattle.shift_report.specs.Steps.{plus, together, sheets_counted}
 
 -- ---- the parts of totals
-abbrev pub made : ℕ → ℕ → ℕ → ℕ → ℤ → Totals
+abbrev pub made : ℕ → ℕ → ℕ → ℕ → ℕ → Totals
 made accepted refused retried squares peaks = record { accepted = accepted; refused = refused; retried = retried; squares = squares; peaks = peaks }
 
 pub totals_same : (a b : Totals) → a.accepted ≡ b.accepted → a.refused ≡ b.refused → a.retried ≡ b.retried → a.squares ≡ b.squares → a.peaks ≡ b.peaks → a ≡ b
@@ -29,25 +28,27 @@ module _ (ts us : List Trace) where
   summed : (test : Trace → Bool) (f : Trace → ℕ) → total (map f (selected test (ts ++ us))) ≡ total (map f (selected test ts)) + total (map f (selected test us))
   summed test f = ap total (kept test f) ∙ total_append (map f (selected test ts)) (map f (selected test us))
 
-  summed_z : (test : Trace → Bool) (f : Trace → ℤ) → total_z (map f (selected test (ts ++ us))) ≡ total_z (map f (selected test ts)) +ℤ total_z (map f (selected test us))
-  summed_z test f = ap total_z (kept test f) ∙ total_z_append (map f (selected test ts)) (map f (selected test us))
-
   pub totals_append : totals_of (ts ++ us) ≡ plus (totals_of ts) (totals_of us)
   unfolding plus accepted_count refused_count retried_total square_total peak_total
-  totals_append = totals_same (totals_of (ts ++ us)) (plus (totals_of ts) (totals_of us)) (counted _) (counted _) (summed _ _) (summed accepted (λ (t : Trace). square_sum t.output)) (summed_z _ _)
+  totals_append = totals_same (totals_of (ts ++ us)) (plus (totals_of ts) (totals_of us)) (counted _) (counted _) (summed _ _) (summed _ _) (summed _ _)
 
 -- ---- sums
 pub zeros_plus : (a : Totals) → plus (totals_of []) a ≡ a
 unfolding plus accepted_count refused_count retried_total square_total peak_total
-zeros_plus a = totals_same (plus (totals_of []) a) a (zero-add _) (zero-add _) (zero-add _) (zero-add _) (+ℤ_idl a.peaks)
+zeros_plus a = totals_same (plus (totals_of []) a) a (zero-add _) (zero-add _) (zero-add _) (zero-add _) (zero-add _)
 
 pub plus_zeros : (a : Totals) → plus a (totals_of []) ≡ a
 unfolding plus accepted_count refused_count retried_total square_total peak_total
-plus_zeros a = totals_same (plus a (totals_of [])) a (add-zero _) (add-zero _) (add-zero _) (add-zero _) (+ℤ_idr a.peaks)
+plus_zeros a = totals_same (plus a (totals_of [])) a (add-zero _) (add-zero _) (add-zero _) (add-zero _) (add-zero _)
 
 pub plus_assoc : (a b c : Totals) → plus (plus a b) c ≡ plus a (plus b c)
 unfolding plus
-plus_assoc a b c = totals_same (plus (plus a b) c) (plus a (plus b c)) (add_assoc _ _ _) (add_assoc _ _ _) (add_assoc _ _ _) (add_assoc _ _ _) (+ℤ_assoc a.peaks b.peaks c.peaks)
+plus_assoc a b c = totals_same (plus (plus a b) c) (plus a (plus b c)) (add_assoc _ _ _) (add_assoc _ _ _) (add_assoc _ _ _) (add_assoc _ _ _) (add_assoc _ _ _)
+
+-- one more
+pub together-push : (ts : List Totals) (t : Totals) → together (ts ++ (t ∷ [])) ≡ plus (together ts) t
+together-push [] t = plus_zeros t ∙ sym (zeros_plus t)
+together-push (u ∷ ts) t = ap (plus u) (together-push ts t) ∙ sym (plus_assoc u (together ts) t)
 
 -- ---- the sheets of either verdict
 one_verdict : (b : Bool) → one_if b + one_if (not b) ≡ 1

@@ -6,12 +6,11 @@ use Rattle.outcome.specs.Outcome.{number_of, is_accepted}
 use Rattle.record.specs.declared.Answer.{Answer}
 use Rattle.record.specs.Record.{read_call}
 use Rattle.mr74.specs.Frame.{Trace}
-use Rattle.calls.specs.Calls.{trace_of, next_state}
-use Rattle.calls.proofs.Calls.{decided}
 use Rattle.lines.specs.Lines.{state_line}
 use Rattle.shift_report.specs.Totals.{totals_of}
-use Rattle.shift_report.specs.Report.{call_of, sheet_traces, report_line, report_output, Unread}
-use Rattle.shift_report.proofs.Steps.{traces_none, traces_more}
+use Rattle.shift_report.specs.Report.{sheet_trace, sheet_traces, report_line, report_output, Unread}
+use Rattle.shift_report.proofs.Traces.{traces_none, traces_more}
+use Rattle.shift_report.proofs.Steps.{decided}
 
 -- k sheets and no more
 traces_unread : (k : ℕ) (s : State) (bytes : List ℕ) → sheet_traces k s (take (364 * k) bytes) ≡ sheet_traces k s bytes
@@ -19,18 +18,18 @@ traces_unread zero s bytes = traces_none s (take 0 bytes) ∙ sym (traces_none s
 traces_unread (suc k) s bytes =
     decided (ltb (length bytes) 364)
     (λ t. ap (sheet_traces (suc k) s) (take_all (364 * suc k) bytes (omega (arith, ltb-true (length bytes) 364 t))))
-    (λ t. more (ltb-false (length bytes) 364 t) (traces_unread k (next_state s (call_of (take 364 bytes))) (drop 364 bytes)))
+    (λ t. more (ltb-false (length bytes) 364 t) (traces_unread k (sheet_trace s (take 364 bytes)).next (drop 364 bytes)))
   where
-    more : 364 ≤ length bytes → sheet_traces k (next_state s (call_of (take 364 bytes))) (take (364 * k) (drop 364 bytes)) ≡ sheet_traces k (next_state s (call_of (take 364 bytes))) (drop 364 bytes)
+    more : 364 ≤ length bytes → sheet_traces k (sheet_trace s (take 364 bytes)).next (take (364 * k) (drop 364 bytes)) ≡ sheet_traces k (sheet_trace s (take 364 bytes)).next (drop 364 bytes)
         → sheet_traces (suc k) s (take (364 * suc k) bytes) ≡ sheet_traces (suc k) s bytes
     more l e =
         let n : 364 * suc k ≡ 364 + 364 * k = omega arith in
         let front : take 364 (take (364 * suc k) bytes) ≡ take 364 bytes = take-take 364 (364 * suc k) bytes (omega arith) in
         let behind : drop 364 (take (364 * suc k) bytes) ≡ take (364 * k) (drop 364 bytes) = ap (λ (j : ℕ). drop 364 (take j bytes)) n ∙ drop-take 364 (364 * k) bytes in
         traces_more k s (take (364 * suc k) bytes) (omega (arith, length-take (364 * suc k) bytes, l))
-        ∙ ap (λ (b : List ℕ). trace_of s (call_of b) ∷ sheet_traces k (next_state s (call_of b)) (drop 364 (take (364 * suc k) bytes))) front
-        ∙ ap (λ (b : List ℕ). trace_of s (call_of (take 364 bytes)) ∷ sheet_traces k (next_state s (call_of (take 364 bytes))) b) behind
-        ∙ ap (λ (ts : List Trace). trace_of s (call_of (take 364 bytes)) ∷ ts) e
+        ∙ ap (λ (b : List ℕ). sheet_trace s b ∷ sheet_traces k (sheet_trace s b).next (drop 364 (take (364 * suc k) bytes))) front
+        ∙ ap (λ (b : List ℕ). sheet_trace s (take 364 bytes) ∷ sheet_traces k (sheet_trace s (take 364 bytes)).next b) behind
+        ∙ ap (λ (ts : List Trace). sheet_trace s (take 364 bytes) ∷ ts) e
         ∙ sym (traces_more k s bytes l)
 
 output_by : Answer → List ℕ → List ℕ

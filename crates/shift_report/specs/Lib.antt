@@ -1,3 +1,4 @@
 pub mod Totals
 pub mod Report
 pub mod Steps
+pub mod Serving

@@ -1,20 +1,20 @@
--- The shift report, whole, of the bench program's whole input: document 02, "2/13 The shift report".
-use Rattle.std.specs.Prelude.{◌≡◌, if◌then◌else◌, List, [], ◌∷◌, map, ℕ, ◌+◌, ◌*◌, ◌<◌, ◌==◌, ℤ, pos, ◌+ℤ◌, ◌*ℤ◌, length, take, drop, replicate, ◌≤ℤ◌, ◌<ℤ◌, codes}
-use Rattle.std.specs.Int.Signed.{shr_z}
+-- The shift report, whole, of the bench program's whole input: docs/BENCH.md, "Shift report".
+use Rattle.std.specs.Prelude.{◌≡◌, if◌then◌else◌, List, map, ℕ, ◌+◌, ◌*◌, ◌/◌, ◌<◌, ◌≤◌, ◌==◌, pos, length, take, drop, replicate, codes}
 use Rattle.lists.specs.Lists.{selected}
 use Rattle.state.specs.declared.State.{State}
 use Rattle.outcome.specs.Outcome.{number_of, is_accepted}
 use Rattle.coding.specs.Bytes.{words}
 use Rattle.record.specs.Record.{read_call}
 use Rattle.mr74.specs.Frame.{Trace}
-use Rattle.calls.specs.Calls.{Call, FrameCall, run_calls}
-use Rattle.lines.specs.Lines.{decimal, integer, field, last, state_line}
+use Rattle.kinds.specs.Kind.{FrameSheet}
+use Rattle.calls.specs.Calls.{Call, trace_of, run_calls}
+use Rattle.lines.specs.Lines.{decimal, field, last, state_line}
 use Rattle.sheets.specs.Sheets.{record_bytes, sheet_bytes, sheets_of}
 use Rattle.shift_report.specs.declared.Totals.{Totals}
 use Rattle.shift_report.specs.Totals.{totals_of}
 
 -- ---- the calls
--- "at most 65,535 sheets"
+-- at most 65,535 sheets are read
 abbrev pub sheet_limit : ℕ
 sheet_limit = 65535
 
@@ -24,24 +24,27 @@ whole_sheets k bytes = selected (λ (sheet : List ℕ). length sheet == sheet_by
 
 -- the frame call of a sheet's bytes, with 160 zeros lent
 abbrev pub call_of : List ℕ → Call
-call_of sheet = FrameCall (words sheet) (replicate 160 (pos 0))
+call_of sheet = record { kind = FrameSheet; energies = []; sheet = words sheet; out = replicate 160 (pos 0) }
+
+-- its trace, with the state s
+abbrev pub sheet_trace : State → List ℕ → Trace
+sheet_trace s sheet = trace_of s (call_of sheet)
 
 -- the traces of the calls of at most k sheets, the first of them with the state s
 unfoldable pub sheet_traces : ℕ → State → List ℕ → List Trace
 sheet_traces k s bytes = run_calls s (map call_of (whole_sheets k bytes))
 
 -- ---- the line
--- the mean of n numbers by their sum: sum / n, rounded toward minus infinity
-unfoldable pub mean_of : ℤ → ℕ → ℤ
-mean_of sum n = shr_z sum n
+-- the mean of n numbers by their sum, rounded down
+unfoldable pub mean_of : ℕ → ℕ → ℕ
+mean_of sum n = sum / n
 
--- "none"
 abbrev pub none_word : List ℕ
 none_word = codes "none"
 
 -- the mean, and `none` where there is no number
-unfoldable pub mean_field : ℤ → ℕ → List ℕ
-mean_field sum n = if n == 0 then none_word else integer (mean_of sum n)
+unfoldable pub mean_field : ℕ → ℕ → List ℕ
+mean_field sum n = if n == 0 then none_word else decimal (mean_of sum n)
 
 -- accepted sheets, refused sheets, retried subframes, sum of squares, mean peak of the accepted sheets
 unfoldable pub report_line : Totals → List ℕ
@@ -60,7 +63,7 @@ report_output input =
 -- ---- theorems: `mean_floor` in proofs/Means.antt, `unread` in proofs/Unread.antt
 -- n times the mean is at most the sum, and n times one more is above it
 abbrev pub MeanFloor : Type 0
-MeanFloor = (sum : ℤ) (n : ℕ) → 0 < n → ((mean_of sum n *ℤ pos n) ≤ℤ sum) × (sum <ℤ ((mean_of sum n +ℤ pos 1) *ℤ pos n))
+MeanFloor = (sum n : ℕ) → 0 < n → (n * mean_of sum n ≤ sum) × (sum < n * (mean_of sum n + 1))
 
 -- what comes after the record and 65,535 sheets does not count
 abbrev pub Unread : Type 0

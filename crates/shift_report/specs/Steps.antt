@@ -1,16 +1,18 @@
--- The report's steps, one for each sheet that it reads, what they come to together, and the widths of the sums that they carry.
+-- The report's steps, one for each sheet that it reads, what they come to together, and the widths of the sums that it carries.
 -- The theorems are `step_totals`, `steps_report` (proofs/Steps.antt) and `totals_bounded`, `totals_within` (proofs/Widths.antt).
-use Rattle.std.specs.Prelude.{◌≡◌, Bool, true, false, if◌then◌else◌, List, [], ◌∷◌, ◌++◌, ℕ, zero, suc, ◌+◌, ◌*◌, ◌^◌, ◌<◌, ◌≤◌, ◌==◌, nat_abs, ◌+ℤ◌, length, take, drop}
+use Rattle.std.specs.Prelude.{◌≡◌, if◌then◌else◌, List, [], ◌∷◌, ◌++◌, ℕ, ◌+◌, ◌*◌, ◌^◌, ◌<◌, ◌≤◌, ◌==◌, length, take, drop, Option, Some, None}
 use Rattle.state.specs.declared.State.{State}
 use Rattle.state.specs.State.{WellFormed}
 use Rattle.mr74.specs.Frame.{Trace}
-use Rattle.calls.specs.Calls.{Call, trace_of, run_calls}
-use Rattle.sheets.specs.Sheets.{record_bytes, sheet_bytes, opening_step}
+use Rattle.calls.specs.Calls.{Call, run_calls}
+use Rattle.sheets.specs.declared.Step.{Step}
+use Rattle.sheets.specs.Sheets.{record_bytes, sheet_bytes, step_result, opening_step}
+use Rattle.sheets.specs.Rounds.{rounds}
 use Rattle.shift_report.specs.declared.Totals.{Totals}
 use Rattle.shift_report.specs.Totals.{totals_of}
-use Rattle.shift_report.specs.Report.{sheet_limit, call_of, report_line, report_output}
+use Rattle.shift_report.specs.Report.{sheet_limit, sheet_trace, report_line, report_output}
 
--- the totals of two lists together
+-- the totals of two lists together, and of any number of them
 unfoldable pub plus : Totals → Totals → Totals
 plus a b =
     record {
@@ -18,43 +20,36 @@ plus a b =
       refused = a.refused + b.refused;
       retried = a.retried + b.retried;
       squares = a.squares + b.squares;
-      peaks = a.peaks +ℤ b.peaks;
+      peaks = a.peaks + b.peaks;
     }
 
--- ---- the program's steps: the sums for the next sheet, the state for it, and whether there is a next step
-pub record TotalsStep : Type 0 where
-  pub totals : Totals
-  pub next : State
-  pub more : Bool
+abbrev pub together : List Totals → Totals
+together [] = totals_of []
+together (t ∷ ts) = plus t (together ts)
 
-abbrev pub totals_step : Totals → State → Bool → TotalsStep
-totals_step totals next more = record { totals = totals; next = next; more = more }
+-- ---- the program's steps
+-- of what was read of a sheet, with the state s: a whole one makes the totals of its call, whose state is carried on; nothing, or some of one, makes none, and
+-- there is no next step
+unfoldable pub step_of : State → List ℕ → Step Totals State
+step_of s bytes =
+    let t = sheet_trace s bytes in
+    if length bytes == sheet_bytes then step_result (totals_of (t ∷ [])) (Some t.next) else step_result (totals_of []) None
 
--- of what was read of a sheet, with the state s: a whole one is added; nothing, or some of one, is not, and there is no next step
-unfoldable pub step_of : Totals → State → List ℕ → TotalsStep
-step_of sums s bytes =
-    let t = trace_of s (call_of bytes) in
-    if length bytes == sheet_bytes then totals_step (plus sums (totals_of (t ∷ []))) t.next true else totals_step sums s false
+-- what the program prints: of a refused record its line alone, and else the line of all that the rounds after it make, of which there are at most 65,535
+abbrev pub lines_after : Option State → List ℕ → List ℕ
+lines_after None rest = []
+lines_after (Some s) rest = report_line (together (rounds step_of sheet_limit (Some s) rest))
 
--- what at most k rounds of the program's loop come to: each reads as many bytes as a sheet has, or what is left of the input, and takes a step on
--- them; the loop ends where a step says so
-unfoldable pub loop_totals : ℕ → Totals → State → List ℕ → Totals
-loop_totals zero sums s input = sums
-loop_totals (suc k) sums s input =
-    let r = step_of sums s (take sheet_bytes input) in
-    if r.more then loop_totals k r.totals r.next (drop sheet_bytes input) else r.totals
-
--- what the program prints: the first step, and the line of what the loop comes to, from nothing
 unfoldable pub program_report : List ℕ → List ℕ
 program_report input =
     let r = opening_step (take record_bytes input) in
-    r.line ++ (if r.more then report_line (loop_totals sheet_limit (totals_of []) r.next (drop record_bytes input)) else [])
+    r.made ++ lines_after r.next (drop record_bytes input)
 
--- sums that are the totals of a list, and one more sheet, give the totals of the longer list
+-- the totals of a list, and a whole sheet's, are the totals of the list that is longer by its call
 abbrev pub StepTotals : Type 0
 StepTotals =
     (ts : List Trace) (s : State) (sheet : List ℕ) → length sheet ≡ sheet_bytes
-    → (step_of (totals_of ts) s sheet).totals ≡ totals_of (ts ++ (trace_of s (call_of sheet) ∷ []))
+    → plus (totals_of ts) (step_of s sheet).made ≡ totals_of (ts ++ (sheet_trace s sheet ∷ []))
 
 -- of any input the program prints `report_output`
 abbrev pub StepsReport : Type 0
@@ -65,18 +60,18 @@ StepsReport = (input : List ℕ) → program_report input ≡ report_output inpu
 abbrev pub sheets_counted : Totals → ℕ
 sheets_counted t = t.accepted + t.refused
 
--- by the count of accepted calls: of each at most four retried subframes, 160 squares of at most 2 ^ 30, and a peak at most 32768 from zero
+-- by the count of accepted calls: of each at most four retried subframes, 160 squares of at most 2 ^ 30, and a peak of at most 32768
 pub record Bounded (t : Totals) : Type 0 where
   pub retried : t.retried ≤ 4 * t.accepted
   pub squares : t.squares ≤ 160 * 2 ^ 30 * t.accepted
-  pub peaks : nat_abs t.peaks ≤ 32768 * t.accepted
+  pub peaks : t.peaks ≤ 32768 * t.accepted
 
 -- the totals of any list of calls from a well-formed state
 abbrev pub TotalsBounded : Type 0
 TotalsBounded = (s : State) (cs : List Call) → WellFormed s → Bounded (totals_of (run_calls s cs))
 
--- of at most 65,535 calls: the sum of squares has 64 bits, and that of the peaks 32 with a sign
+-- of at most 65,535 calls: the sum of squares has 64 bits, and that of the peaks 31
 abbrev pub TotalsWithin : Type 0
 TotalsWithin =
     (s : State) (cs : List Call) → WellFormed s → length cs ≤ sheet_limit
-    → ((totals_of (run_calls s cs)).squares < 2 ^ 64) × (nat_abs (totals_of (run_calls s cs)).peaks < 2 ^ 31)
+    → ((totals_of (run_calls s cs)).squares < 2 ^ 64) × ((totals_of (run_calls s cs)).peaks < 2 ^ 31)

@@ -1,6 +1,6 @@
--- The totals of a list of calls, by their traces: document 02, "2/13 The shift report". Each is worked out by itself, of the whole list.
+-- The totals of a list of calls, by their traces: docs/BENCH.md, "Shift report". Each is worked out by itself, of the whole list.
 use Rattle.std.specs.Prelude.{not, List, map, ℕ, ◌*◌, ℤ, nat_abs}
-use Rattle.lists.specs.Lists.{count, selected, total_z}
+use Rattle.lists.specs.Lists.{count, selected}
 use Rattle.lists.specs.Parts.{total}
 use Rattle.decoder.specs.Subframe.{flag_of}
 use Rattle.mr74.specs.Frame.{Trace}
@@ -32,8 +32,8 @@ retried_total ts = total (map (λ (t : Trace). retried_in t.places) (selected ac
 unfoldable pub square_total : List Trace → ℕ
 square_total ts = total (map (λ (t : Trace). square_sum t.output) (selected accepted ts))
 
-unfoldable pub peak_total : List Trace → ℤ
-peak_total ts = total_z (map (λ (t : Trace). peak_of t.output) (selected accepted ts))
+unfoldable pub peak_total : List Trace → ℕ
+peak_total ts = total (map (λ (t : Trace). peak_of t.output) (selected accepted ts))
 
 abbrev pub totals_of : List Trace → Totals
 totals_of ts =

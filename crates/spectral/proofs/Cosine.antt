@@ -1,7 +1,7 @@
 -- The cosine table: its entries fit 16 bits, it falls at each step, and entry 64 - k is minus entry k except at the ends.
 use Rattle.std.proofs.Common.{◌≡◌, Bool, ◌||◌, ℕ, ◌+◌, ◌-◌, ◌<◌, arith, leb, ltb, ltb→lt, ℤ, neg_ℤ, ◌<ℤ◌, w16, SFits}
-use borrow.Author.Tests.{lt-leb}
-use lib.Signed.{mag, lt_z, lt_z_yes}
+use Rattle.std.proofs.lemmas.Bool.{lt-leb}
+use Rattle.std.specs.Int.Signed.{mag, lt_z, lt_z_yes}
 use Rattle.lists.specs.Lists.{at, eq_z}
 use Rattle.lists.proofs.Table.{at_each, eq_z→eq}
 use Rattle.spectral.specs.Lsp.{cosine}

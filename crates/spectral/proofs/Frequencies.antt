@@ -1,5 +1,5 @@
 -- That LSFs lie in their range has one proof at most, as a fact of a type needs.
-use mathlib.Core.HLevel.{×_prop, Unit-prop}
+use Rattle.std.specs.Coded.{×_prop, Unit-prop}
 use Rattle.std.proofs.Common.{List, [], ◌∷◌, ℤ}
 use denote.Struct.Props.{props}
 use Rattle.spectral.specs.Lsp.{Frequencies}

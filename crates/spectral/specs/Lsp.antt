@@ -28,6 +28,6 @@ lsp_of lsf =
 abbrev pub lsps_of : List ℤ → List ℤ
 lsps_of lsfs = map lsp_of lsfs
 
--- document 01, refusal 2: every LSF lies in 0..=16384
+-- every LSF lies in 0..=16384; a sheet with another is turned back by refusal 2
 abbrev pub Frequencies : List ℤ → Type 0
 Frequencies lsfs = Every (λ (lsf : ℤ). (pos 0 ≤ℤ lsf) × (lsf ≤ℤ pos 16384)) lsfs

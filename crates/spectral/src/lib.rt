@@ -37,7 +37,7 @@ fn frequency_to_cosine(frequency: i16) -> i16
     between(COSINE[f / 256], COSINE[f / 256 + 1], (f % 256) as i16)
 }
 
-// The LSPs (Q15) of ten LSFs (Q15). That each LSF lies in 0..=16384 is shown by the test of the sheet, refusal 2.
+/// The LSPs (Q15) of ten LSFs (Q15). That each LSF lies in 0..=16384 is shown by the test of the sheet, refusal 2.
 pub fn lsf_to_lsp(frequencies: [i16; 10]) -> [i16; 10]
     requires { Frequencies frequencies }
     ensures { result ≡ lsps_of frequencies }

@@ -1,28 +1,21 @@
--- What a state has shown that its checks accept.
-use Rattle.std.proofs.Common.{◌≡◌, refl, List, [], ◌∷◌, ◌++◌, ℕ, ◌+◌, ◌≤◌, ◌<◌, arith, ltb-false, le-ltb, ltb, true, false, ◌||◌, ℤ, pos, length, take, drop, length-append, length-take, ◌≤ℤ◌}
+-- What a state has shown that its checks accept, and that these accept no other.
+use Rattle.std.proofs.Common.{◌≡◌, refl, sym, ap, ◌∙◌, List, [], ◌∷◌, ◌++◌, ℕ, ◌+◌, ◌≤◌, ◌<◌, arith, ltb-false, le-ltb, ltb, true, false, ◌||◌, ℤ, pos, length, take, drop, length-append, length-take}
 use lib.Seq.{get_or_at}
 use lib.Signed.{lt_z}
 use Rattle.std.proofs.lemmas.Bool.{or_parts}
 use Rattle.basicop.proofs.Tests.{less_no, no_less}
-use Rattle.std.specs.Prelude.{Ok}
+use Rattle.std.specs.Prelude.{Ok, Err, IsOk, is_ok, ◌↔◌}
 use Rattle.outcome.specs.declared.Refusal.TheVariants.{GainField}
-use Rattle.outcome.specs.Outcome.{is_accepted}
+use Rattle.outcome.specs.Outcome.{Outcome, is_accepted}
 use Rattle.outcome.specs.Checks.{first_met, first_outside}
 use Rattle.outcome.proofs.Ranges.{in_ranges, from_zero, own_limits}
 use Rattle.outcome.proofs.Checks.{Placed, found_placed, none_met}
-use Rattle.gain_concealment.specs.Laws.{Kept}
 use Rattle.state.specs.declared.Concealment.{Concealment}
 use Rattle.state.specs.declared.State.{State}
 use Rattle.state.specs.Layout.{pair_numbers, gain_numbers, concealment_of, state_of}
 use Rattle.state.proofs.Fields.{every_parts, kept_fields, fields_kept}
+pub use Rattle.state.specs.State.{Concealing, InRange}
 use Rattle.state.specs.State.{state_checks, state_outcome}
-
--- what an erased frame goes by
-pub record Concealing (c : Concealment) : Type 0 where
-  pub gains : Kept c.gains
-  pub mark : (pos 0 ≤ℤ c.erased) × (c.erased ≤ℤ pos 1)
-  pub from : pos 19 ≤ℤ c.last_lag
-  pub to : c.last_lag ≤ℤ pos 144
 
 abbrev pub fields : Concealment → List ℤ
 fields c = gain_numbers c.gains ++ (c.erased ∷ [])
@@ -43,12 +36,6 @@ concealing c m l =
       from = less_no n.0;
       to = less_no n.1;
     }
-
-pub record InRange (s : State) : Type 0 where
-  pub from : pos 0 ≤ℤ s.core.sharpening.0
-  pub to : s.core.sharpening.0 ≤ℤ pos 13017
-  pub gain : pos 0 ≤ℤ s.post.gain.previous_gain
-  pub concealment : Concealing s.concealment
 
 pub in_range : (s : State) → is_accepted (first_met (state_checks s)) ≡ true → InRange s
 in_range s h =
@@ -76,6 +63,15 @@ in_range_accepted s k =
     let c = s.concealment in
     rw (no_less s.core.sharpening.0 (pos 0) k.from, no_less (pos 13017) s.core.sharpening.0 k.to, no_less s.post.gain.previous_gain (pos 0) k.gain, none_outside c k.concealment)
     (rw (no_less c.last_lag (pos 19) k.concealment.from, no_less (pos 144) c.last_lag k.concealment.to))
+
+accepted_is : (o : Outcome) → IsOk o → is_accepted o ≡ true
+accepted_is (Ok tt) h = refl
+accepted_is (Err r) h = absurd (cc h)
+
+-- both: of what the code's checks come to
+pub accepted_where : (s : State) {o : Outcome} → o ≡ first_met (state_checks s) → IsOk o ↔ InRange s
+unfolding state_outcome
+accepted_where s {o} e = (λ h. in_range s (ap is_accepted (sym e) ∙ accepted_is o h), λ k. ap is_ok (e ∙ in_range_accepted s k))
 
 -- the places of a state whose fives are no longer than fives, as they are of every state that is taken from numbers
 pub state_placed : (s : State) → length (fields s.concealment) ≤ 15 → Placed (state_checks s)

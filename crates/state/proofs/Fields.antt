@@ -1,10 +1,13 @@
--- The gains of a concealment one by one.
-use Rattle.std.proofs.Common.{List, [], ◌∷◌, ◌++◌, ℤ, pos, ◌≤ℤ◌}
+-- The gains of a concealment one by one, and the numbers that 18 is tested of.
+use Rattle.std.proofs.Common.{◌≡◌, ap, ◌∙◌, arith, length, length-append, take, drop, set, take_all, List, [], ◌∷◌, ◌++◌, ℤ, pos, ◌≤ℤ◌}
 use Rattle.lists.specs.Lists.{Every}
 use Rattle.lists.proofs.Entries.{every_append}
 use Rattle.gain_concealment.specs.declared.GainConcealment.{GainConcealment}
 use Rattle.gain_concealment.specs.Laws.{Kept}
-use Rattle.state.specs.Layout.{pair_numbers, gain_numbers}
+use Rattle.std.proofs.lemmas.List.{set_at}
+use Rattle.state.specs.declared.Concealment.{Concealment}
+use Rattle.state.specs.Layout.{pair_numbers, gain_numbers, concealment_numbers}
+use Rattle.state.proofs.Numbers.{own_fields}
 
 -- what holds of every entry holds of those of both parts
 pub every_parts : (P : ℤ → Type 0) (xs ys : List ℤ) → Every P (xs ++ ys) → Every P xs × Every P ys
@@ -28,3 +31,15 @@ fields_kept g h =
       past = record { pitch = q.1.0; code = q.1.1.0 };
       last_good = record { pitch = q.1.1.1.0; code = q.1.1.1.1.0 };
     }
+
+-- of a concealment's numbers those behind the lag, and with their last, the mark, made 1
+pub tested : (c : Concealment) (numbers fields : List ℤ) → numbers ≡ concealment_numbers c → fields ≡ take 15 (drop 1 numbers)
+    → length c.gains.pitch_history ≡ 5 → length c.gains.code_history ≡ 5
+    → (fields ≡ gain_numbers c.gains ++ (c.erased ∷ [])) × (set fields 14 (pos 1) ≡ gain_numbers c.gains ++ (pos 1 ∷ []))
+tested c numbers fields e f p q =
+    let gains = gain_numbers c.gains in
+    let pairs = pair_numbers c.gains.past ++ pair_numbers c.gains.last_good in
+    let long : length gains ≡ 14 = omega (arith, length-append c.gains.pitch_history (c.gains.code_history ++ pairs), length-append c.gains.code_history pairs, p, q) in
+    let all = gains ++ (c.erased ∷ []) in
+    let same : fields ≡ all = f ∙ ap (λ (xs : List ℤ). take 15 (drop 1 xs)) e ∙ ap (take 15) (own_fields c) ∙ take_all 15 all (omega (arith, long, length-append gains (c.erased ∷ []))) in
+    (same, ap (λ (xs : List ℤ). set xs 14 (pos 1)) same ∙ set_at gains c.erased [] (pos 1) 14 long)

@@ -8,11 +8,12 @@ use Rattle.basicop.specs.Words.{Words}
 use Rattle.basicop.proofs.Words.{zero_fits, words_one, words_append}
 use Rattle.basicop.specs.declared.Gains.{Gains}
 use Rattle.gain_concealment.specs.Formed.{PairFormed}
+use Rattle.state.specs.declared.Concealment.{Concealment}
 use Rattle.state.specs.declared.State.{State}
-use Rattle.state.specs.State.{WellFormed, FieldsPlaced}
+use Rattle.state.specs.State.{WellFormed, Fields}
 use Rattle.state.specs.Layout.{Part, counts, parts_in, core_parts, core_count, core_numbers, core_from, core_of, post_parts, post_count, post_numbers, post_from, post_of, concealment_parts, concealment_count, concealment_numbers, concealment_from, concealment_of, pair_from, pair_numbers, gain_numbers, state_parts, state_count, numbers_of, state_from, state_of}
 
--- the numbers at which document 01 has the parts start
+-- the numbers at which the parts start
 pub numbered :
     starts 0 (counts core_parts ++ (counts post_parts ++ counts concealment_parts))
     ≡ 0 ∷ 10 ∷ 164 ∷ 165 ∷ 175 ∷ 185 ∷ 195 ∷ 196 ∷ 197 ∷ 198 ∷ 203 ∷ 208 ∷ 210 ∷ 212 ∷ []
@@ -117,32 +118,29 @@ numbers_of_state xs l =
     ap joined (λ i. core_numbers_lem (part_at ps 0) c.0 i ∷ post_numbers_lem (part_at ps 1) c.1.0 i ∷ concealment_numbers_lem (part_at ps 2) c.1.1.0 i ∷ []) ∙ joined_cut (counts state_parts) xs l
 
 -- ---- the fields that 18 and 19 are about
-module _ (s : State) (w : WellFormed s) where
-  abbrev own : List ℤ
-  own = concealment_numbers s.concealment
+pub own_fields : (c : Concealment) → drop 1 (concealment_numbers c) ≡ gain_numbers c.gains ++ (c.erased ∷ [])
+unfolding concealment_numbers
+own_fields c =
+    let g = c.gains in
+    let pairs = pair_numbers g.past ++ pair_numbers g.last_good in
+    let mark = c.erased ∷ [] in
+    sym (append_assoc g.pitch_history (g.code_history ++ pairs) mark ∙ ap (λ (xs : List ℤ). g.pitch_history ++ xs) (append_assoc g.code_history pairs mark))
 
-  from_197 : drop 197 (numbers_of s) ≡ own ++ []
-  unfolding numbers_of core_numbers post_numbers
-  from_197 =
-      let core = (held_words core_parts s.core (in_core s w)).count in
-      let post = (held_words post_parts s.post (in_post s w)).count in
-      sym (drop-drop 22 175 (numbers_of s))
-      ∙ ap (drop 22) (drop_at (core_numbers s.core) (post_numbers s.post ++ (own ++ [])) 175 core)
-      ∙ drop_at (post_numbers s.post) (own ++ []) 22 post
+from_197 : (s : State) → WellFormed s → drop 197 (numbers_of s) ≡ concealment_numbers s.concealment
+unfolding numbers_of core_numbers post_numbers
+from_197 s w =
+    let own = concealment_numbers s.concealment in
+    let core = (held_words core_parts s.core (in_core s w)).count in
+    let post = (held_words post_parts s.post (in_post s w)).count in
+    sym (drop-drop 22 175 (numbers_of s))
+    ∙ ap (drop 22) (drop_at (core_numbers s.core) (post_numbers s.post ++ (own ++ [])) 175 core)
+    ∙ drop_at (post_numbers s.post) (own ++ []) 22 post
+    ∙ append-nil own
 
-  laid : drop 1 (own ++ []) ≡ gain_numbers s.concealment.gains ++ (s.concealment.erased ∷ [])
-  unfolding concealment_numbers
-  laid =
-      let g = s.concealment.gains in
-      let pairs = pair_numbers g.past ++ pair_numbers g.last_good in
-      let mark = s.concealment.erased ∷ [] in
-      append-nil (g.pitch_history ++ (g.code_history ++ (pairs ++ mark)))
-      ∙ sym (append_assoc g.pitch_history (g.code_history ++ pairs) mark ∙ ap (λ (xs : List ℤ). g.pitch_history ++ xs) (append_assoc g.code_history pairs mark))
-
-pub fields_placed : FieldsPlaced
+pub fields_placed : (s : State) → WellFormed s → Fields s
 unfolding concealment_numbers
 fields_placed s w =
     record {
       last_lag = at_drop (numbers_of s) 197 0 ∙ ap (λ (xs : List ℤ). at xs 0) (from_197 s w);
-      gains = sym (drop-drop 1 197 (numbers_of s)) ∙ ap (drop 1) (from_197 s w) ∙ laid s w;
+      gains = sym (drop-drop 1 197 (numbers_of s)) ∙ ap (drop 1) (from_197 s w) ∙ own_fields s.concealment;
     }

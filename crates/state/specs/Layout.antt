@@ -1,4 +1,4 @@
--- How a state is laid out as numbers: document 01, "The handover record", the body.
+-- How a state is laid out as numbers: docs/BENCH.md, "Record", the body.
 use Rattle.std.specs.Prelude.{List, [], ◌∷◌, ◌++◌, map, ℕ, ℤ}
 use Rattle.lists.specs.Lists.{at}
 use Rattle.lists.specs.Parts.{joined, total, cut, part_at}

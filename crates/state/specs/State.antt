@@ -1,5 +1,5 @@
--- The state that is carried between frames: what it holds, and the checks of document 01 that turn it back.
-use Rattle.std.specs.Prelude.{◌≡◌, ◌||◌, List, [], ◌∷◌, ◌++◌, ℕ, ◌+◌, pos, length, drop}
+-- The state that is carried between frames: what it holds, and what turns it back (docs/BENCH.md, "State", "Refusals").
+use Rattle.std.specs.Prelude.{◌≡◌, ◌||◌, List, [], ◌∷◌, ◌++◌, ℕ, ◌+◌, pos, length, drop, ◌≤ℤ◌}
 use Rattle.std.specs.Int.Signed.{lt_z}
 use Rattle.std.specs.Int.{w16}
 use Rattle.std.proofs.Common.{SFits}
@@ -9,6 +9,7 @@ use Rattle.outcome.specs.declared.Refusal.TheVariants.{Sharpening, SmoothedGain,
 use Rattle.outcome.specs.Outcome.{Outcome}
 use Rattle.outcome.specs.Checks.{Check, check, place_check, first_met, first_outside}
 use Rattle.gain_concealment.specs.Formed.{GainsFormed}
+use Rattle.gain_concealment.specs.Laws.{Kept}
 use Rattle.state.specs.declared.Concealment.{Concealment}
 use Rattle.state.specs.declared.State.{State}
 use Rattle.state.specs.Layout.{gain_numbers, numbers_of}
@@ -58,14 +59,25 @@ lag_checks c = check (lt_z c.last_lag (pos 19) || lt_z (pos 144) c.last_lag) Las
 abbrev pub state_checks : State → List Check
 state_checks s = signal_checks s ++ (mark_checks s.concealment ++ lag_checks s.concealment)
 
--- the places are those of the record: of a state's numbers the last lag is field 197, and the gains and the mark stand from field 198 on. The theorem is
--- `fields_placed` in proofs/Numbers.antt
+unfoldable pub state_outcome : State → Outcome
+state_outcome s = first_met (state_checks s)
+
+-- ---- the states that are accepted, in plain words: `check_state` accepts exactly these
+-- what an erased frame goes by: no gain is negative, the mark is 0 or 1, the last lag lies in 19..=144
+pub record Concealing (c : Concealment) : Type 0 where
+  pub gains : Kept c.gains
+  pub mark : (pos 0 ≤ℤ c.erased) × (c.erased ≤ℤ pos 1)
+  pub from : pos 19 ≤ℤ c.last_lag
+  pub to : c.last_lag ≤ℤ pos 144
+
+-- sharpening in 0..=13017, and a smoothed gain that is not negative
+pub record InRange (s : State) : Type 0 where
+  pub from : pos 0 ≤ℤ s.core.sharpening.0
+  pub to : s.core.sharpening.0 ≤ℤ pos 13017
+  pub gain : pos 0 ≤ℤ s.post.gain.previous_gain
+  pub concealment : Concealing s.concealment
+
+-- ---- the places of 18 are those of the record: of a state's numbers the last lag is field 197, and the gains and the mark stand from field 198 on
 pub record Fields (s : State) : Type 0 where
   pub last_lag : at (numbers_of s) 197 ≡ s.concealment.last_lag
   pub gains : drop 198 (numbers_of s) ≡ gain_numbers s.concealment.gains ++ (s.concealment.erased ∷ [])
-
-abbrev pub FieldsPlaced : Type 0
-FieldsPlaced = (s : State) → WellFormed s → Fields s
-
-unfoldable pub state_outcome : State → Outcome
-state_outcome s = first_met (state_checks s)

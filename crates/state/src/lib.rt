@@ -1,13 +1,16 @@
 // The state that is carried between frames, and what turns it back.
 #![tactic(auto)]
 
-ghost use Rattle.std.specs.Prelude.{◌≡◌, ◌++◌, ◌∷◌, []};
+ghost use Rattle.std.specs.Prelude.{◌≡◌, ◌↔◌, IsOk};
 ghost use Rattle.outcome.specs.Checks.{first_met};
-ghost use Rattle.state.specs.Layout.{gain_numbers};
-ghost use Rattle.state.specs.State.{signal_checks, mark_checks, lag_checks, state_checks};
+ghost use Rattle.state.specs.State.{WellFormed, InRange, signal_checks, mark_checks, lag_checks, state_checks};
+
+mod layout;
 
 use decoder::Core;
 use gain_concealment::GainConcealment;
+use layout::{CONCEALMENT_NUMBERS, CORE_NUMBERS, concealment_numbers};
+pub use layout::{POST_NUMBERS, numbers_of, post_numbers, post_of, state_of};
 use outcome::{Outcome, Refusal};
 use postfilter::Postfilter;
 
@@ -29,27 +32,20 @@ pub struct State {
     pub concealment: Concealment,
 }
 
-// How many numbers the parts of a state have (specs/Layout.antt).
-pub const LSP: usize = 10;
+/// How many numbers core and postfilter have, and a state.
+pub const SIGNAL_NUMBERS: usize = CORE_NUMBERS + POST_NUMBERS;
 
-pub const PAST: usize = 154;
+pub const NUMBERS: usize = SIGNAL_NUMBERS + CONCEALMENT_NUMBERS;
 
-pub const HISTORY: usize = 10;
-
-pub const CORE_NUMBERS: usize = LSP + PAST + 1 + HISTORY;
-
-pub const POST_NUMBERS: usize = HISTORY + HISTORY + 1 + 1;
-
-pub const FIVE: usize = 5;
-
-pub const PAIR: usize = 2;
-
-pub const CONCEALMENT_NUMBERS: usize = 1 + FIVE + FIVE + PAIR + PAIR + 1;
-
-pub const NUMBERS: usize = CORE_NUMBERS + POST_NUMBERS + CONCEALMENT_NUMBERS;
-
-// The field from which on 18 is tested.
+// The field from which on 18 is tested, and how many are: the gains and the mark.
 const FIRST_GAIN: usize = 198;
+
+const FIELDS: usize = CONCEALMENT_NUMBERS - 1;
+
+/// A state of the code is well-formed: each of its numbers has 16 bits.
+pub fn formed(state: State)
+    ensures { WellFormed state }
+{}
 
 // 16 and 17: sharpening and smoothed gain.
 #[tactic(auto, unfolding(outcome::specs::Checks::first_met))]
@@ -67,40 +63,15 @@ fn check_signal(state: State) -> Outcome
     Ok(())
 }
 
-// The gains of a concealment, fields 198 to 211, and a number after them.
-fn gains_and(gains: GainConcealment, last: i16) -> [i16; 15]
-    ensures { result ≡ gain_numbers gains ++ (last ∷ []) }
-{
-    let [a, b, c, d, e] = gains.pitch_history;
-    let [p, q, r, s, t] = gains.code_history;
-    let past = gains.past;
-    let good = gains.last_good;
-    [
-        a,
-        b,
-        c,
-        d,
-        e,
-        p,
-        q,
-        r,
-        s,
-        t,
-        past.pitch.0,
-        past.code.0,
-        good.pitch.0,
-        good.code.0,
-        last,
-    ]
-}
-
 // 18: a negative gain, or an erased mark other than 0 or 1. A gain has no upper limit: each is its own.
 fn check_mark(concealment: Concealment) -> Outcome
     ensures { result ≡ first_met (mark_checks concealment) }
 {
-    let fields = gains_and(concealment.gains, concealment.erased);
-    let limits = gains_and(concealment.gains, 1);
-    if let Some(place) = outcome::first_outside(&fields, &limits) {
+    let numbers = concealment_numbers(concealment);
+    let fields: &[i16; FIELDS] = copy::window(&numbers, 1);
+    let mut limits = *fields;
+    limits[FIELDS - 1] = 1;
+    if let Some(place) = outcome::first_outside(fields, &limits) {
         return Err(Refusal::GainField(FIRST_GAIN + place));
     }
     Ok(())
@@ -118,9 +89,10 @@ fn check_lag(concealment: Concealment) -> Outcome
     Ok(())
 }
 
-// 16 to 19, which frame calls, reader and writer share.
+/// 16 to 19, which frame calls, reader and writer share.
 pub fn check_state(state: State) -> Outcome
-    ensures { result ≡ first_met (state_checks state) }
+    ensures value { result ≡ first_met (state_checks state) }
+    ensures accepted { IsOk result ↔ InRange state }
 {
     check_signal(state)?;
     check_mark(state.concealment)?;

@@ -1,6 +1,6 @@
 -- The theorem of specs/Agree.antt: up to the first sample at which one lies outside 32 bits, the numbers before the clamps and the whole numbers are the same.
 use Rattle.std.proofs.Common.{ℕ, zero, suc, ◌≡◌, refl, sym, ap, ◌∙◌, false, List, [], ◌∷◌, ◌++◌, ℤ, pos, ◌+ℤ◌, ◌-ℤ◌, ◌*ℤ◌, length, take, drop, w32}
-use lib.IntN.{*ℤ_comm}
+use Rattle.std.proofs.Math.IntN.{*ℤ_comm}
 use Rattle.std.proofs.lemmas.List.{drop-take}
 use Rattle.lists.specs.Lists.{at}
 use Rattle.basicop.specs.Ops.{asr, clamp, l_mult, l_sub, l_shl, l_add}

@@ -1,6 +1,6 @@
 -- The recursion that is fed its own samples: its length, how it goes on, and two of them beside each other.
 use Rattle.std.proofs.Common.{ℕ, zero, suc, ◌+◌, ◌<◌, ◌≤◌, ◌≡◌, refl, sym, ap, ◌∙◌, Bool, true, false, cond, List, [], ◌∷◌, ◌++◌, add-zero, arith, ℤ, pos, length, take, drop, length-append, take-take, take-suc}
-use lib.Seq.{take-length, take-append_seam, drop-append-le}
+use Rattle.std.proofs.Math.Seq.{take-length, take-append_seam, drop-append-le}
 use Rattle.lists.specs.Lists.{at}
 use Rattle.lists.proofs.Entries.{each_append}
 use Rattle.synthesis.specs.Recursion.{recursion, step_numbers, some_outside, some_list_outside, first_list_outside}

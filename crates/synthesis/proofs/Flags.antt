@@ -1,8 +1,8 @@
 -- Numbers outside 32 bits: what a clamp does to them, and whether and where a list has one.
 use Prim.Native.Nat.compare
 use Rattle.std.proofs.Common.{suc, ◌+◌, ◌≤◌, ◌≡◌, refl, sym, ◌∙◌, subst, Bool, true, false, ◌||◌, cond, List, [], ◌∷◌, ◌++◌, arith, zero-add, suc-add, lt-ltb, le-ltb, ltb, ℤ, pos, negsuc, length, w32, SFits}
-use mathlib.Core.Bool.{or_assoc, or-false}
-use lib.Signed.{lt_z}
+use Rattle.std.proofs.Math.Bool.{or_assoc, or-false}
+use Rattle.std.specs.Int.Signed.{lt_z}
 use Rattle.basicop.specs.Ops.{clamp, least, most}
 use Rattle.basicop.proofs.Clamp.{clamp_mid, clamp_fits}
 use Rattle.std.proofs.lemmas.Bool.{or_parts}

@@ -1,6 +1,6 @@
 -- The loops over the samples.
 use Rattle.std.proofs.Common.{ℕ, suc, ◌+◌, ◌-◌, ◌<◌, ◌≡◌, refl, sym, ap, ap₂, ◌∙◌, true, false, List, [], ◌∷◌, ◌++◌, add-one, arith, ℤ, pos, ◌+ℤ◌, ◌*ℤ◌, length, set, take, drop, replicate, length-set, length-drop, take-append-drop, drop-cons, length-take-le, take-suc, take-suc-set, take_at, drop_at, drop-set-lt, take_all, w32, SFits}
-use lib.Seq.{drop-append-le}
+use Rattle.std.proofs.Math.Seq.{drop-append-le}
 use Rattle.lists.specs.Lists.{at}
 use Rattle.synthesis.specs.Recursion.{recursion, step_numbers, some_outside, some_list_outside, first_list_outside}
 use Rattle.synthesis.specs.Synthesis.{first_samples, sample, unheld, unhelds, overflowed, overflowed_at}

@@ -1,6 +1,6 @@
 -- The sums over the taps, before tap k, and the weight of a row.
 use Rattle.std.proofs.Common.{ℕ, zero, suc, ◌+◌, ◌*◌, ◌-◌, ◌≤◌, ◌<◌, ◌≡◌, sym, ap, ◌∙◌, false, List, length, zero-add, suc-add, arith, ℤ, pos, nat_abs, ◌-ℤ◌, ◌*ℤ◌, w16, w32, SFits}
-use lib.Signed.{nat_abs-le}
+use Rattle.std.specs.Int.Signed.{nat_abs-le}
 use Rattle.std.specs.List.{sum_by}
 use Rattle.std.proofs.lemmas.List.{get_or_default}
 use Rattle.lists.proofs.Fold.{fold_counted}

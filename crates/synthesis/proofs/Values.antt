@@ -1,4 +1,4 @@
--- The starred values of document 01: zero history, row 4096, -4096, zeros.
+-- The starred values of docs/BENCH.md, "Values to hold": zero history, row 4096, -4096, zeros.
 use Rattle.std.proofs.Common.{◌≡◌, refl, sym, ◌∙◌, true, false, List, ◌∷◌, ℤ, pos, replicate}
 use Rattle.lists.specs.Lists.{minus}
 use Rattle.basicop.specs.Ops.{clamp, asr, l_mult, l_sub, l_shl, l_add}

@@ -1,5 +1,5 @@
 -- A recursion that is fed its own samples, and the first of its samples at which a number leaves the range of 32 bits:
--- what both machines of document 01 are written with (Synthesis.antt: clamped steps; Whole.antt: whole numbers).
+-- what both machines are written with (Synthesis.antt: clamped steps; Whole.antt: whole numbers).
 use Rattle.std.specs.Prelude.{ℕ, suc, ◌-◌, Bool, false, ◌||◌, if◌then◌else◌, List, [], ◌∷◌, ◌++◌, ℤ, length}
 use Rattle.std.specs.Int.Signed.{lt_z}
 use Rattle.std.specs.Int.{w32}

@@ -1,4 +1,4 @@
--- Syn_filt of TS 26.073 (TS 26.090, 6.1), by clamped steps; document 01, "Synthesis output".
+-- Syn_filt of TS 26.073 (TS 26.090, 6.1), by clamped steps; docs/BENCH.md, "Synthesis".
 -- a: the row a0, a1, .. (Q12); x: the excitation x[n]; y: the samples before y[n], the last of them y[n - 1]; m: the number of taps, 10 in MR74.
 use Rattle.std.specs.Prelude.{ℕ, zero, suc, ◌-◌, Bool, List, [], ◌∷◌, ◌++◌, ℤ, pos, ◌+ℤ◌, ◌-ℤ◌, ◌*ℤ◌, length, take, drop, replicate}
 use Rattle.lists.specs.Lists.{at}

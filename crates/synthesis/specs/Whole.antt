@@ -1,4 +1,4 @@
--- One subframe in whole numbers, none clamped: document 01, "What demand 3 measures by". It knows no operator of the standard's, only +, -, ×, >>
+-- One subframe in whole numbers, none clamped: docs/BENCH.md, "Recurrence". It knows no operator of the standard's, only +, -, ×, >>
 -- and the range of 32 bits; how samples follow one another, and a number outside (Recursion.antt), it shares with the clamped steps.
 -- a: the row a0, a1, ..; x: x(n); y: the samples before y(n), the last of them y(n - 1); m: the number of taps, 10 in MR74.
 use Rattle.std.specs.Prelude.{ℕ, zero, suc, Bool, List, [], ◌∷◌, ◌++◌, ℤ, pos, ◌+ℤ◌, ◌-ℤ◌, ◌*ℤ◌, drop}

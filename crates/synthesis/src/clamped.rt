@@ -23,14 +23,15 @@ impl Row {
     fn clamped_sum(&self, x: i16, y: &[i16; 10]) -> i32
         ensures { result ≡ acc self.now.coefficients x y.now 10 }
     {
-        if self.light {
+        let light = self.light;
+        if light {
             return self.untested(x, y);
         }
         accumulated(&self.coefficients, x, y)
     }
 }
 
-// The samples for the first `count` numbers of the excitation, and zeros after them.
+/// The samples for the first `count` numbers of the excitation, and zeros after them.
 pub fn first_samples(
     coefficients: [i16; 11],
     excitation: [i16; 40],
@@ -49,7 +50,7 @@ pub fn first_samples(
     stretch(&buf, 10)
 }
 
-// Forty samples, each step clamped, and the history after them.
+/// Forty samples, each step clamped, and the history after them.
 pub fn filter(coefficients: [i16; 11], excitation: [i16; 40], history: [i16; 10]) -> Filtered
     ensures { result ≡ filtered coefficients excitation history }
 {

@@ -2,7 +2,7 @@
 ghost use Rattle.std.specs.Prelude.{◌≡◌, nat_lt};
 ghost use Rattle.synthesis.specs.Inner.{weight};
 
-// A row, a0 to a10 (Q12). It is light where its weight, |a0| + .. + |a10|, is below 32768: then no number up to a sum can leave 32 bits.
+/// A row, a0 to a10 (Q12). It is light where its weight, |a0| + .. + |a10|, is below 32768: then no number up to a sum can leave 32 bits.
 #[derive(Clone, Copy)]
 pub struct Row {
     pub coefficients: [i16; 11],
@@ -11,7 +11,7 @@ pub struct Row {
 }
 
 impl Row {
-    // The row of these coefficients.
+    /// The row of these coefficients.
     pub fn new(coefficients: [i16; 11]) -> Row
         ensures { result.coefficients ≡ coefficients }
     {

@@ -79,7 +79,7 @@ impl Row {
     }
 }
 
-// The first pass, sample by sample: the place at which a step first leaves 32 bits, and the samples before it.
+/// The first pass, sample by sample: the place at which a step first leaves 32 bits, and the samples before it.
 pub fn preview(coefficients: [i16; 11], excitation: [i16; 40], history: [i16; 10]) -> Output
     ensures { result ≡ previewed coefficients excitation history }
 {

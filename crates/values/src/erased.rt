@@ -81,7 +81,7 @@ fn erased_frame(rt: &impl Print, name: &str, state: State, stage: usize) -> io::
     let answer = mr74::frame_erased(&sheet, state, GainDecoder::default(), &mut samples);
     let number = outcome::number(answer.frame.outcome);
     let peak = lines::peak(samples);
-    let [a, b, c, d] = answer.next.energies;
+    let [a, b, c, d] = answer.gain_decoder.energies;
     println!(rt; "{name}: refusal {number}, peak {peak}, energies {a} {b} {c} {d}")?;
     fields(rt, name, answer.frame.next.concealment)?;
     Ok(answer.frame.next)

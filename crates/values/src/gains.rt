@@ -24,11 +24,9 @@ fn gains(
     pow_table: &[i16],
     energies: [i16; 4],
 ) -> io::Result<()> {
-    let gains = GainDecoder { energies }
-        .decode(index, Q13(innovation), &LOG_TABLE, pow_table)
-        .gains;
-    let (pitch, code) = (gains.pitch.0, gains.code.0);
-    let [a, b, c, d] = gains.next.energies;
+    let answer = GainDecoder { energies }.decode(index, Q13(innovation), &LOG_TABLE, pow_table);
+    let (pitch, code) = (answer.gains.pitch.0, answer.gains.code.0);
+    let [a, b, c, d] = answer.gain_decoder.energies;
     println!(rt; "gains {index}: {pitch} {code}, energies {a} {b} {c} {d}")
 }
 
@@ -90,7 +88,7 @@ pub fn index_frame(rt: &impl Print) -> io::Result<()> {
         GainDecoder::default(),
         &mut samples,
     );
-    let [a, b, c, d] = answer.next.energies;
+    let [a, b, c, d] = answer.gain_decoder.energies;
     println!(rt;
         "index frame: samples 40 and 42 are {} and {}, energies {a} {b} {c} {d}",
         samples[40], samples[42]

@@ -1,11 +1,12 @@
-// Runs document 01's values to hold through the code, the starred ones among them, gains from their index and an index frame, erased frames, records of
-// both versions, means of peaks and shift reports, and prints each with its input.
+//! Runs values to hold through the code, the starred ones among them (docs/BENCH.md, "Values to hold"), gains from their index and an index frame, erased
+//! frames, records of both versions, means of peaks and shift reports, and prints each with its input.
 #![tactic(auto)]
 
 mod erased;
 mod gains;
 mod records;
 
+use anyhow::Result;
 use pitch::{Fraction, PitchLag};
 use std::fmt::Display;
 use std::io;
@@ -130,21 +131,26 @@ fn marks(rt: &impl Print) -> io::Result<()> {
     Ok(())
 }
 
-// of numbers by their sum: below zero it is rounded down too, though no sum of peaks lies there
+// of numbers by their sum
 fn means(rt: &impl Print) -> io::Result<()> {
-    for sum in [-73, -74, 73, -1] {
-        line(rt, "mean of two by their sum", sum, totals::mean(sum, 2))?;
+    for sum in [73, 74, 1] {
+        line(
+            rt,
+            "mean of two by their sum",
+            sum,
+            shift_report::mean(sum, 2),
+        )?;
     }
     let sum = 2147450880;
     line(
         rt,
         "mean of 65535 by their sum",
         sum,
-        totals::mean(sum, 65535),
+        shift_report::mean(sum, 65535),
     )
 }
 
-// document 01's listing: a zero record, a zero sheet, one with only LSF 9 = 16385, and a byte
+// the listing: a zero record, a zero sheet, one with only LSF 9 = 16385, and a byte
 fn listing() -> [u8; 1131] {
     let mut input = [0u8; 1131];
     input[..402].copy_from_slice(&records::zero_record());
@@ -161,15 +167,16 @@ fn spaced(listing: [u8; 1131]) -> [u8; 1131] {
 }
 
 // the shift reports of so many bytes of an input, behind a name
-fn reports(rt: &impl Print, name: &str, input: &[u8], counts: &[usize]) -> io::Result<()> {
+fn reports(rt: &impl Print, name: &str, input: &[u8], counts: &[usize]) -> Result<()> {
     for bytes in counts.iter().filter_map(|count| input.get(..*count)) {
         print!(rt; "{name} {} bytes: ", bytes.len())?;
-        rt.write_all(totals::report(bytes).as_bytes())?;
+        let mut rest: &[u8] = bytes;
+        shift_report::serve(&mut rest, &mut io::writer(rt))?;
     }
     Ok(())
 }
 
-fn main(rt: HostRuntime) -> io::Result<()> {
+fn main(rt: HostRuntime) -> Result<()> {
     frequencies(&rt)?;
     lags(&rt)?;
     relative_lags(&rt)?;

@@ -1,4 +1,4 @@
-//! The bench program's lines, from document 01.
+//! The bench program's lines, from docs/BENCH.md, "Bench program".
 
 use crate::sheets::{self, Frame, Sheet};
 

@@ -42,7 +42,7 @@ fn count(file: &File, records: &[Vec<i16>], tally: &mut Tally) {
     let text = if file.published {
         format!("{name}: {all} records, the model agrees on {agreed}")
     } else {
-        format!("{name}: {all} records, from the papers")
+        format!("{name}: {all} records, from docs/BENCH.md")
     };
     tally.line(agreed == all, &text);
     for kind in (file.kinds)() {

@@ -36,8 +36,8 @@ fn output(program: &Path, folder: &Path) -> io::Result<String> {
 }
 
 /// As many rounds as the longest answer has words; the folder is for the changed files.
-fn rounds(program: &Path, vectors: &Path, folder: &Path) -> io::Result<Vec<usize>> {
-    let read = |file: &File| fs::read(vectors.join(file.name));
+fn rounds(program: &Path, recorded: &Path, folder: &Path) -> io::Result<Vec<usize>> {
+    let read = |file: &File| fs::read(recorded.join(file.name));
     let bytes: Vec<Vec<u8>> = FILES.iter().map(read).collect::<io::Result<_>>()?;
     let records: Vec<_> = FILES
         .iter()
@@ -67,11 +67,11 @@ fn rounds(program: &Path, vectors: &Path, folder: &Path) -> io::Result<Vec<usize
 }
 
 /// `folder` is made new, and removed afterwards.
-pub fn check(program: &Path, vectors: &Path, folder: &Path) -> bool {
+pub fn check(program: &Path, recorded: &Path, folder: &Path) -> bool {
     let mut tally = Tally::default();
     let unseen = fs::create_dir_all(folder)
         .and_then(|()| program.canonicalize())
-        .and_then(|program| rounds(&program, vectors, folder));
+        .and_then(|program| rounds(&program, recorded, folder));
     match unseen {
         Ok(unseen) => {
             for (file, unseen) in FILES.iter().zip(unseen) {

@@ -150,7 +150,7 @@ fn signal<const N: usize>(random: &mut Random) -> [i16; N] {
     }
 }
 
-/// The first LSF that breaks the gap, in document 02's words: the first is at least 205, and each
+/// The first LSF that breaks the gap, as docs/BENCH.md, "Refusals", has it: the first is at least 205, and each
 /// later one at least 205 above the one before.
 pub fn first_close(lsf: &[i16]) -> Option<usize> {
     let close = |place: usize| {

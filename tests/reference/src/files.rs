@@ -149,7 +149,7 @@ impl File {
     }
 }
 
-/// The tables of the files, as `tests/vectors/README.md` has them.
+/// The tables of the files, as `crates/replay/data/README.md` has them.
 pub fn layout() -> String {
     FILES.iter().map(File::layout).collect()
 }

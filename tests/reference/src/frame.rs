@@ -1,4 +1,4 @@
-//! The frame calls, of a frame sheet, an index sheet and an erased sheet: the papers' refusals around
+//! The frame calls, of a frame sheet, an index sheet and an erased sheet: the refusals of docs/BENCH.md around
 //! the published chain.
 
 use crate::{

@@ -1,4 +1,4 @@
-//! The call of a gain index: the papers' refusals around the published gain decoder.
+//! The call of a gain index: the refusals of docs/BENCH.md around the published gain decoder.
 
 use crate::{
     SUBFRAME,

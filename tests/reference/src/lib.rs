@@ -62,7 +62,7 @@ mod tests;
 pub mod values;
 
 pub const LSFS: usize = 10;
-/// Document 02's gap: LSF_GAP of the standard.
+/// The gap of refusal 6: LSF_GAP of the standard.
 pub const LSF_GAP: i16 = 205;
 pub const ROW: usize = 11;
 pub const SUBFRAME: usize = 40;

@@ -15,7 +15,7 @@ use std::{
 };
 
 const USAGE: &str = "\
-reference values         document 01's values to hold, against the reference
+reference values         the values to hold of docs/BENCH.md, against the reference
 reference write DIR      writes the recorded answers into DIR
 reference check DIR      makes them again and compares them with the files in DIR
 reference show FILE      prints a recorded file, one record a line

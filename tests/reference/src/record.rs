@@ -1,4 +1,4 @@
-//! The handover record's reader and writer, from the papers alone: the published Rust has none.
+//! The handover record's reader and writer, from docs/BENCH.md, "Record", alone: the published Rust has none.
 
 use crate::{
     STATE, ZEROS,

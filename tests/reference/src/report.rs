@@ -1,4 +1,4 @@
-//! The shift report's line, from request 2 of document 02: counts and sums over the list of sheets.
+//! The shift report's line, from docs/BENCH.md, "Shift report": counts and sums over the list of sheets.
 
 use crate::{
     NOWHERE, bench, record,

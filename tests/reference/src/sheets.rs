@@ -1,4 +1,4 @@
-//! The programs' input, from document 01: a record of version 1, then sheets, each decoded with the
+//! The programs' input, from docs/BENCH.md, "Bench program": a record of version 1, then sheets, each decoded with the
 //! state that the one before gave back.
 
 use crate::{FRAME, SHEET, STATE, SUBFRAMES, flag, frame, record};

@@ -22,8 +22,9 @@ use crate::{
 };
 use std::{collections::BTreeSet, fs, path::PathBuf};
 
-fn vectors(name: &str) -> PathBuf {
-    [env!("CARGO_MANIFEST_DIR"), "..", "vectors", name]
+/// A file of the recorded answers.
+fn recorded(name: &str) -> PathBuf {
+    [env!("CARGO_MANIFEST_DIR"), "../../crates/replay/data", name]
         .iter()
         .collect()
 }
@@ -35,14 +36,14 @@ fn values_hold() {
 
 #[test]
 fn readme_has_every_layout() {
-    let readme = fs::read_to_string(vectors("README.md")).expect("the vectors have a README.md");
+    let readme = fs::read_to_string(recorded("README.md")).expect("they have a README.md");
     assert!(readme.contains(files::layout().trim_end()));
 }
 
 #[test]
 fn answers_come_from_the_reference() {
     for file in &FILES {
-        let bytes = fs::read(vectors(file.name)).expect("the file was written");
+        let bytes = fs::read(recorded(file.name)).expect("the file was written");
         for record in file.records(&bytes).expect("whole records") {
             let (input, answer) = record.split_at(file.input_words());
             assert_eq!((file.answer)(input), answer, "{}", file.name);
@@ -50,7 +51,7 @@ fn answers_come_from_the_reference() {
     }
 }
 
-/// Demand 3's recurrence: 23 whole numbers a sample, none clamped. The samples before the first at
+/// The recurrence of docs/BENCH.md: 23 whole numbers a sample, none clamped. The samples before the first at
 /// which one of them leaves 32 bits, all forty where none does: their number is the place.
 fn whole(row: &[i16; ROW], history: &[i16; LSFS], x: &[i16; SUBFRAME]) -> Vec<i16> {
     let mut y = history.to_vec();
@@ -96,7 +97,7 @@ fn pass(random: &mut Random) -> ([i16; ROW], [i16; LSFS], [i16; SUBFRAME]) {
 #[test]
 fn places_follow_the_recurrence() {
     let file = files::find("synthesis.bin").expect("the file is listed");
-    let bytes = fs::read(vectors(file.name)).expect("the file was written");
+    let bytes = fs::read(recorded(file.name)).expect("the file was written");
     for record in file.records(&bytes).expect("whole records") {
         let excitation = part(&record, ROW + LSFS);
         let samples = whole(&part(&record, 0), &part(&record, ROW), &excitation);
@@ -153,7 +154,7 @@ fn refused_calls_change_nothing() {
     assert_eq!(out, [5; FRAME]);
 }
 
-/// The first LSF that the source's gap rule moves is the first that breaks document 02's gap, and
+/// The first LSF that the source's gap rule moves is the first that breaks the gap of refusal 6, and
 /// the rule leaves LSFs that keep it.
 #[test]
 fn gap_rule_is_the_sources() {
@@ -306,7 +307,7 @@ fn index_sheets_stand_for_indices() {
     }
 }
 
-/// Table, innovation and energies of any kind: the second decoder's steps lie where the papers have
+/// Table, innovation and energies of any kind: the second decoder's steps lie where docs/BENCH.md has
 /// them, and its gains are the source's.
 #[test]
 fn gain_steps_keep_their_ranges() {

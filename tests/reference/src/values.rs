@@ -1,4 +1,4 @@
-//! Document 01's "Values to hold" and its listing of the bench program, lines of sheets that keep the
+//! docs/BENCH.md, "Values to hold", and a listing of the bench program, lines of sheets that keep the
 //! gap and break it, gains of indices, and erased frames, against the reference.
 
 pub mod erased;
@@ -23,7 +23,7 @@ fn same<T: PartialEq + Debug>(tally: &mut Tally, what: &str, got: T, wanted: T) 
     let text = if got == wanted {
         format!("{what} -> {got:?}")
     } else {
-        format!("{what} -> {got:?}, the papers have {wanted:?}")
+        format!("{what} -> {got:?}, docs/BENCH.md has {wanted:?}")
     };
     tally.line(got == wanted, &text);
 }
@@ -240,7 +240,7 @@ pub fn zero_record() -> Vec<u8> {
     bytes
 }
 
-/// Input of document 01's listing.
+/// Input of the listing: two refused sheets and a cut one behind a record of zeros.
 pub fn listing_input() -> Vec<u8> {
     let mut input = zero_record();
     input.extend([0; 2 * SHEET]);

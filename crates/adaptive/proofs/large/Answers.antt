@@ -1,6 +1,6 @@
 -- `adaptive::large` meets its contract: the range's two tests are the definition's.
 use Rattle.std.proofs.Common.{◌≡◌, refl, ap, ap₂, ◌∙◌, Bool, true, false, cond, not, ◌&&◌, ◌||◌, ◌-◌, ℤ, pos, ◌<ℤ◌, to_z-of_z, is_le, Less, Equal, Greater}
-use lib.Signed.{lt_z}
+use Rattle.std.specs.Int.Signed.{lt_z}
 use Rattle.lists.specs.Lists.{minus}
 use Rattle.basicop.proofs.Ints.{arith_ℤ}
 use Rattle.basicop.proofs.Tests.{less_yes}

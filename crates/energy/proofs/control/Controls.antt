@@ -23,7 +23,7 @@ pub agc2_some : (into out : List ℤ) → pos 0 <ℤ energy out → map (scaled_
 unfolding agc2
 agc2_some into out p = rw (above_zero (energy out) p)
 
--- document 01: "Zero output energy leaves samples and sets the smoothed gain to 0"
+-- an output energy of 0 leaves the samples and sets the smoothed gain to 0 (docs/BENCH.md, "Energy")
 pub agc_none : (gain : ℤ) (into out : List ℤ) → energy out ≡ pos 0 → ◌≡◌ {A = Controlled} (record { samples = out; control = record { previous_gain = pos 0 } }) (agc gain into out).value
 unfolding agc
 agc_none gain into out h = rw h

@@ -1,6 +1,6 @@
 -- agc: the smoothed gain. From 0..=32767 each step ends in 0..=32765, and forty steps at most at 32748.
 use Rattle.std.proofs.Common.{◌≡◌, refl, ap, ℕ, zero, suc, min, ◌+◌, ◌*◌, ◌/◌, ◌<◌, ◌≤◌, div-lt_iff_lt-mul, arith, lit<, lit≤, ℤ, pos, negsuc, ◌≤ℤ◌}
-use lib.Pow.{shr_mono}
+use Rattle.std.proofs.Math.Pow.{shr_mono}
 use Rattle.lists.specs.Lists.{iter}
 use Rattle.basicop.specs.Ops.{clamp, sub}
 use Rattle.basicop.proofs.Ints.{arith_ℤ, le_in, ≤ℤ_trans}

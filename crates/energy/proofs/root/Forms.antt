@@ -1,12 +1,12 @@
 -- Where the inverse root has a form of the language for an operator, it is the operator (L_shr: `asr_read` of Tests).
 use Rattle.std.proofs.Common.{◌≡◌, refl, sym, ap, ◌∙◌, ℕ, suc, ◌+◌, ◌*◌, ◌-◌, ◌/◌, ◌%◌, ◌^◌, ◌<◌, mod-eq_of_lt, mod-lt, arith, bit_and, pow_pos, pow-add, lit<, ℤ, pos, negsuc, ◌+ℤ◌, ◌≤ℤ◌, w16, w32, SFits, of_z, to_z, to_z-of_z}
 use borrow.Author.Differences.{sum_is_lem}
-use lib.Bits.{and_mask}
-use lib.Pow.{low, mod-pow-add, mod-mod-pow}
-use lib.Signed.{shr_z}
-use mir.Syntax.{Width}
+use Rattle.std.specs.Int.Bits.{and_mask}
+use Rattle.std.proofs.Math.Pow.{low, mod-pow-add, mod-mod-pow}
+use Rattle.std.specs.Int.Signed.{shr_z}
+use Rattle.std.specs.Int.{Width}
 use mir.Val.{bits, hbits}
-use mir.Facts.{to_z_pos}
+use Rattle.std.proofs.Math.Facts.{to_z_pos}
 use Rattle.basicop.specs.Ops.{asr, mod_z, low_bits, add, extract_l, l_deposit_h}
 use Rattle.basicop.proofs.Clamp.{clamp_id}
 use Rattle.basicop.proofs.Ints.{arith_ℤ, sfits_by}

@@ -1,6 +1,6 @@
 -- Inv_sqrt of a positive number: the index stays in the table, no step clamps, and the result is in range.
 use Rattle.std.proofs.Common.{◌≡◌, refl, sym, ◌∙◌, Bool, true, false, ℕ, ◌+◌, ◌-◌, ◌/◌, ◌^◌, ◌<◌, ◌≤◌, div-lt_iff_lt-mul, le-div_iff_mul-le, arith, pow_mono, pow_pos, ℤ, pos, negsuc, ◌+ℤ◌, ◌-ℤ◌, ◌≤ℤ◌, ◌<ℤ◌, w32, SFits}
-use lib.Signed.{le_z, le_z_yes}
+use Rattle.std.specs.Int.Signed.{le_z, le_z_yes}
 use Rattle.basicop.specs.Ops.{asr, sub, l_shr}
 use Rattle.basicop.proofs.Ints.{arith_ℤ, le_in, ≤ℤ_trans}
 use Rattle.basicop.proofs.Naturals.{minus, asr_pos}

@@ -1,7 +1,7 @@
 -- The steps of Inv_sqrt, for a positive number: what each gives, its range, and as the code has it.
 use Rattle.std.proofs.Common.{◌≡◌, refl, ap, ◌∙◌, true, false, ℕ, ◌+◌, ◌-◌, ◌/◌, ◌<◌, ◌≤◌, div-lt_iff_lt-mul, div-add-mod', mod-lt, arith, eq-eqb, ne_eqb, bit_and, eqb, lit<, lit≤, ℤ, pos, negsuc, ◌+ℤ◌, ◌≤ℤ◌, ◌<ℤ◌, w16, w32, SFits, of_z}
-use borrow.Author.Tests.{lt-leb}
-use lib.Signed.{le_z, le_z_yes}
+use Rattle.std.proofs.lemmas.Bool.{lt-leb}
+use Rattle.std.specs.Int.Signed.{le_z, le_z_yes}
 use Rattle.lists.specs.Lists.{eq_z, entry}
 use Rattle.basicop.specs.Ops.{asr, low_bits, sub, l_shl, l_shr, norm_l}
 use Rattle.basicop.specs.Interpolation.{interpolated}

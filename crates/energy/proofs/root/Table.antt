@@ -1,7 +1,7 @@
 -- The table of the inverse root: 49 entries within 16384..=32767, each less than the one before it, by at most 977.
 use Rattle.std.proofs.Common.{Bool, ◌&&◌, ◌||◌, ℕ, ◌+◌, ◌<◌, arith, T, leb, ℤ, pos, negsuc, ◌+ℤ◌, ◌≤ℤ◌, ◌<ℤ◌, w16, SFits}
-use borrow.Author.Tests.{lt-leb}
-use lib.Signed.{le_z, lt_z, le_z_yes, lt_z_yes}
+use Rattle.std.proofs.lemmas.Bool.{lt-leb}
+use Rattle.std.specs.Int.Signed.{le_z, lt_z, le_z_yes, lt_z_yes}
 use Rattle.lists.specs.Lists.{at, entry}
 use Rattle.lists.proofs.Table.{at_each, both_pass}
 use Rattle.basicop.proofs.Ints.{arith_ℤ, sfits_by}

@@ -1,5 +1,5 @@
 -- `polynomial` meets its contract: degree 1 is the definition's, each further degree is raised from the one below, and the degree falls.
-use Rattle.std.proofs.Common.{rules, ap, ◌∙◌, [], ◌∷◌, ◌-◌, ℤ, pos, w16, w32}
+use Rattle.std.proofs.Common.{rules, ap, ◌∙◌, [], ◌∷◌, ℤ, pos, w16, w32}
 use Rattle.lists.specs.Lists.{at}
 use Rattle.lists.proofs.Signed.{back, got}
 use Rattle.basicop.specs.Ops.{l_msu}

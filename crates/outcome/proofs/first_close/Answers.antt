@@ -12,6 +12,6 @@ pub returns : goal.returns
 returns c =
     let xs = c.args.numbers.now in
     let gap = c.args.gap in
-    let before = YieldsList-from_chain (YieldsList-from_once (Some (pos 0)) cc) (YieldsList-from_copied (YieldsList-from_slice xs cc)) (search rules) (search rules) in
+    let before = YieldsList-from_chain (YieldsList-from_once (Some (pos 0)) (rw (c.zip.ensures.first, c.chain.ensures.first) c.once.ensures.item)) (YieldsList-from_copied (YieldsList-from_slice xs cc)) (search rules) (search rules) in
     position_from_yields_List (close gap) c.position.new.self _ c.position.result c.position.ensures.ran (YieldsList-from_zip before (YieldsList-from_copied (YieldsList-from_slice xs cc))) (λ x b q k. search (rules, tests))
     ∙ close_found gap xs

@@ -12,4 +12,4 @@ returns c =
     let m = a.memory in
     let r = back w16 {z = m.previous_residual} (search rules) in
     let l = back w16 {z = c.excitation-previous_residual.result.last} (search rules) in
-    filtered_by m a.coefficients a.samples c.weight-numerator.ensures c.weight-denominator.ensures (c.tilt_of-tilt.ensures ∙ rw c.impulse.ensures) (rw r at c.excitation-previous_residual.ensures.0) (l ∙ c.excitation-previous_residual.ensures.1) c.filter.ensures c.control_gain.ensures c.newest-input_history.ensures
+    filtered_by m a.coefficients a.samples c.weight-numerator.ensures c.weight-denominator.ensures (c.tilt_of-tilt.ensures ∙ rw c.impulse.ensures) (rw r at c.excitation-previous_residual.ensures.0) (l ∙ c.excitation-previous_residual.ensures.1) c.filter.ensures c.process-scaled.ensures c.newest-input_history.ensures

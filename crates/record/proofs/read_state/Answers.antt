@@ -13,7 +13,7 @@ pub returns-in_err-check_state : goal.returns-in_err-check_state
 returns-in_err-check_state c =
     let p = err_from_is_err_and c.from_residual-in_err-check_state.result c.from_residual-in_err-check_state.ensures.1 in
     let f = c.in_ok-found.ensures in
-    rw (p.1, p.2) (state_decides c.args.bytes.now f.0 f.1.0 ∙ sym c.in_err-check_state.ensures)
+    rw (p.1, p.2) (state_decides c.args.bytes.now f.0 f.1.0 ∙ sym c.in_err-check_state.ensures.value)
 
 pub returns : goal.returns
-returns c = let f = c.in_ok-found.ensures in (state_decides c.args.bytes.now f.0 f.1.0 ∙ sym c.in_ok-check_state.ensures, f.1)
+returns c = let f = c.in_ok-found.ensures in (state_decides c.args.bytes.now f.0 f.1.0 ∙ sym c.in_ok-check_state.ensures.value, f.1)

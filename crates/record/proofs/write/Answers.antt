@@ -13,9 +13,9 @@ returns-in_err-check_state c =
     let a = c.args in
     let w = c.in-Some.ensures.cases in
     let p = err_from_is_err_and c.from_residual.result c.from_residual.ensures.1 in
-    write_refused a.state a.out.now (c.in_err-check_state.ensures ∙ room_there a.state a.out.now w.long) (p.1 ∙ ap Err p.2) w.same
+    write_refused a.state a.out.now (c.in_err-check_state.ensures.value ∙ room_there a.state a.out.now w.long) (p.1 ∙ ap Err p.2) w.same
 
 pub returns : goal.returns
 returns c =
     let a = c.args in
-    write_accepted a.state a.out.now (c.in_ok-check_state.ensures ∙ room_there a.state a.out.now c.in-Some.ensures.cases.long) c.write_record.ensures
+    write_accepted a.state a.out.now (c.in_ok-check_state.ensures.value ∙ room_there a.state a.out.now c.in-Some.ensures.cases.long) c.write_record.ensures

@@ -12,5 +12,5 @@ loop-done-preserved g c =
     let read = c.in_ok-n.ensures in
     record {
       within = search rules;
-      came = subst (Consumes _ _) (front_grows from (length bytes - from) c.in_ok-n.n bytes c.read.new.buf c.loop-done.invariant.within read.bound.0) (Consumes-trans _ _ _ _ _ c.loop-done.invariant.came read.bytes.0);
+      came = subst (Consumes _ _) (front_grows from (length bytes - from) c.in_ok-n.n bytes c.read_some.new.bytes c.loop-done.invariant.within read.bound.0) (Consumes-trans _ _ _ _ _ c.loop-done.invariant.came read.bytes.0);
     }

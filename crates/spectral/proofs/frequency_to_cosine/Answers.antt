@@ -1,6 +1,6 @@
 -- `spectral::frequency_to_cosine` meets its contract: 16384 gives the table's last entry; below it the index and the one after it are in the table.
 use Rattle.std.proofs.Common.{◌≡◌, sym, ap, ◌∙◌, ℕ, ◌+◌, ◌/◌, ◌%◌, ◌<◌, arith, ℤ, pos, negsuc, nat_abs, ◌≤ℤ◌, w16, to_z, of_z, to_z-of_z}
-use mir.Facts.{to_z_pos}
+use Rattle.std.proofs.Math.Facts.{to_z_pos}
 use Rattle.lists.specs.Lists.{at}
 use Rattle.lists.proofs.Signed.{got}
 use Rattle.basicop.proofs.Ints.{arith_ℤ}

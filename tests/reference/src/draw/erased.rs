@@ -91,7 +91,7 @@ pub fn any_state(random: &mut Random) -> Vec<i16> {
     }
 }
 
-/// The first field that refusal 18 names, in document 02's words: a negative gain field or an erased
+/// The first field that refusal 18 names, as docs/BENCH.md, "Refusals", has it: a negative gain field or an erased
 /// mark other than 0 or 1.
 pub fn bad_field(state: &[i16]) -> Option<usize> {
     let negative = (198..=211).find(|&field| state[field] < 0);
@@ -166,7 +166,7 @@ pub fn conceal_energy(file: &File, random: &mut Random) -> Records {
     chosen.records
 }
 
-/// The fives of document 02's values in every order that turns or mirrors them.
+/// The fives of the values to hold in every order that turns or mirrors them.
 fn arranged(five: [i16; 5]) -> Vec<[i16; 5]> {
     let mut all = Vec::new();
     for first in 0..5 {

@@ -119,7 +119,7 @@ impl Files<'_> {
         self.told("no input", &[], "state refused 11\n", 0);
         self.told("a record alone", &record, "0 0 0 0 none\n", record.len());
         let listing = values::listing_input();
-        let name = "document 01's listing";
+        let name = "the listing";
         self.told(name, &listing, "0 2 0 0 none\n", listing.len());
         let gaps = values::gap_input();
         let name = "two sheets that keep the gap, and five refused ones";

@@ -1,6 +1,6 @@
 -- `div_s` meets its contract: the quotient of fifteen turns is one division.
 use Rattle.std.proofs.Common.{◌∙◌, ◌*◌, ◌<◌, div-le_self, lt_of_le_of_lt, ltb→lt, ℤ, pos, negsuc, ◌*ℤ◌, ◌≤ℤ◌, ◌<ℤ◌, w16, w32, SFits, of_z, to_z-of_z}
-use lib.Signed.{quot_z}
+use Rattle.std.specs.Int.Signed.{quot_z}
 use Rattle.lists.proofs.Signed.{got}
 use Rattle.basicop.proofs.Calls.{rules_ℤ}
 use Rattle.basicop.proofs.Division.{div_s_is}

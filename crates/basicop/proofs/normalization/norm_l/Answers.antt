@@ -1,8 +1,8 @@
 -- `norm_l` meets its contract: doublings are counted by leading zeros.
 use Rattle.std.proofs.Common.{◌≡◌, ◌∙◌, sym, false, ◌-◌, arith, ltb-false, ltb→lt, ℤ, pos, negsuc, nat_abs, ◌<ℤ◌, w16, w32, SFits, to_z, of_z, to_z-of_z}
-use lib.Count.{count_leading_zeros}
-use lib.Signed.{lt_z}
-use mir.Facts.{to_z_pos}
+use Rattle.std.specs.Int.Count.{count_leading_zeros}
+use Rattle.std.specs.Int.Signed.{lt_z}
+use Rattle.std.proofs.Math.Facts.{to_z_pos}
 use Rattle.lists.proofs.Signed.{got}
 use Rattle.basicop.specs.Ops.{norm_l}
 use Rattle.basicop.proofs.Tests.{negative, less_yes}

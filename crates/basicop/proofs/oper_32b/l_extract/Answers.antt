@@ -1,6 +1,6 @@
 -- `l_extract` meets its contract: no step of L_Extract clamps.
 use Rattle.std.proofs.Common.{◌≡◌, sym, arith, pos, ◌-ℤ◌, ◌*ℤ◌, w16, w32, to_z, of_z, to_z-of_z}
-use lib.Signed.{shr_z}
+use Rattle.std.specs.Int.Signed.{shr_z}
 use Rattle.lists.proofs.Signed.{got}
 use Rattle.basicop.specs.Ops.{asr, mod_z}
 use Rattle.basicop.proofs.Calls.{rules_ℤ}

@@ -1,6 +1,6 @@
 -- `left` meets its contract: a count above 31 clamps as 31 does.
 use Rattle.std.proofs.Common.{◌∙◌, min, ◌<◌, ◌+◌, ◌^◌, arith, pow_mono, w32, w64, SFits, to_z-of_z}
-use lib.Signed.{mag}
+use Rattle.std.specs.Int.Signed.{mag}
 use Rattle.lists.proofs.Signed.{got}
 use Rattle.basicop.proofs.Calls.{rules_ℤ}
 use Rattle.basicop.proofs.Clamp.{clamp_min}

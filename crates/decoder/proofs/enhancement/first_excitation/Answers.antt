@@ -1,6 +1,6 @@
 -- `decoder::first_excitation` meets its contract: the difference from 16384, clamped, is above 0 just where the doubled sharpening is above 16384.
 use Rattle.std.proofs.Common.{◌≡◌, ap, ◌∙◌, true, false, List, rules, ℤ, pos, w16, SFits, to_z-of_z}
-use lib.Signed.{lt_z}
+use Rattle.std.specs.Int.Signed.{lt_z}
 use Rattle.basicop.specs.Ops.{sub, shl}
 use Rattle.basicop.proofs.Clamp.{clamp_above}
 use Rattle.energy.specs.Gain.{agc2}

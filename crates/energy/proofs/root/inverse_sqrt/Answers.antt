@@ -1,6 +1,6 @@
 -- `inverse_sqrt` meets its contract: line by line it is the definition, and the index of a positive number has an entry after it.
 use Rattle.std.proofs.Common.{◌≡◌, ap, ap₂, ◌∙◌, ℕ, ◌+◌, ◌<◌, arith, ℤ, pos, ◌<ℤ◌, w16, w32, SFits, of_z, to_z, to_z-of_z}
-use lib.Signed.{le_z_yes}
+use Rattle.std.specs.Int.Signed.{le_z_yes}
 use Rattle.lists.specs.Lists.{at}
 use Rattle.lists.proofs.Signed.{got}
 use Rattle.basicop.specs.Ops.{asr, sub, l_sub, l_mult, l_shl, norm_l, extract_h, extract_l}

@@ -1,6 +1,6 @@
 -- `squares` meets its contract: the sum is the exact one, which is held to 32 bits once.
 use Rattle.std.proofs.Common.{arith, rules, ◌≡◌, ap, ◌∙◌, ℕ, ◌<◌, ◌*◌, ℤ, pos, nat_abs, length, w16, w32, w64, SFits}
-use mir.Facts.{to_z_pos}
+use Rattle.std.proofs.Math.Facts.{to_z_pos}
 use Rattle.std.proofs.lemmas.Iterator.{YieldsList-from_slice, YieldsList-from_map}
 use Rattle.std.proofs.lemmas.Iterator.Consumers.{YieldsList-at, sum_by_from_yields_List}
 use Rattle.basicop.specs.Ops.{clamp}

@@ -13,4 +13,4 @@ pub returns : goal.returns
 returns c =
     let each : (k : ℕ) → SFits w16 (at c.gain_row.result k) = λ k. search (rules, entry_fits) in
     rw (to_z-of_z (each 0))
-    (gains_made c.args.tables.logs.now c.args.tables.pows.now (pos c.args.index) c.args.innovation.0 c.args.self.energies c.gain_row.ensures c.predict-predicted.ensures (rw (to_z-of_z (each 1)) at c.code_gain.ensures) (rw (to_z-of_z (each 2)) at c.enter.ensures))
+    (gains_made c.args.tables.logs.now c.args.tables.pows.now (pos c.args.index) c.args.innovation.0 c.args.self.energies c.gain_row.ensures.value c.predict-predicted.ensures (rw (to_z-of_z (each 1)) at c.code_gain.ensures) (rw (to_z-of_z (each 2)) at c.enter.ensures))

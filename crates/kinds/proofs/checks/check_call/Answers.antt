@@ -59,7 +59,7 @@ returns-in_err-check_state c =
     let k = lent_kind a.kind in
     let p = err_from_is_err_and c.from_residual-in_err-check_state.result c.from_residual-in_err-check_state.ensures.1 in
     rw (p.1, p.2)
-    (state_decides (kind_of k) a.sheet.now a.state a.room (lengths k (length a.sheet.now) a.room c.count.ensures c.in_ok-check_lengths.ensures) c.in_ok-check_lsfs.ensures c.in_err-check_state.ensures c.in_ok-kind.ensures.0)
+    (state_decides (kind_of k) a.sheet.now a.state a.room (lengths k (length a.sheet.now) a.room c.count.ensures c.in_ok-check_lengths.ensures) c.in_ok-check_lsfs.ensures c.in_err-check_state.ensures.value c.in_ok-kind.ensures.0)
 
 pub invariant_of-result : goal.invariant_of-result
 invariant_of-result c =
@@ -75,4 +75,4 @@ pub returns : goal.returns
 returns c =
     let a = c.args in
     let k = lent_kind a.kind in
-    (state_decides (kind_of k) a.sheet.now a.state a.room (lengths k (length a.sheet.now) a.room c.count.ensures c.in_ok-check_lengths.ensures) c.in_ok-check_lsfs.ensures c.in_ok-check_state.ensures c.in_ok-kind.ensures.0, (c.in_ok-kind.ensures.1, refl))
+    (state_decides (kind_of k) a.sheet.now a.state a.room (lengths k (length a.sheet.now) a.room c.count.ensures c.in_ok-check_lengths.ensures) c.in_ok-check_lsfs.ensures c.in_ok-check_state.ensures.value c.in_ok-kind.ensures.0, (c.in_ok-kind.ensures.1, refl))

@@ -31,17 +31,17 @@ returns-in_err-tables c =
     let s = a.sheet.now in
     let p = err_from_is_err_and c.from_residual-in_err-tables.result c.from_residual-in_err-tables.ensures.1 in
     rw (p.1, p.2)
-    (sym (refused_first (table_checks a.logs.now a.pows.now) (index_checks 4 (gain_indices_of s)) (sym c.in_err-tables.ensures) ∙ after_pitch a.logs.now a.pows.now s c.in_ok-check_pitch.ensures))
+    (sym (refused_first (table_checks a.logs.now a.pows.now) (index_checks 4 (gain_indices_of s)) (sym c.in_err-tables.ensures.value) ∙ after_pitch a.logs.now a.pows.now s c.in_ok-check_pitch.ensures))
 
 pub returns-in_err-check_indices : goal.returns-in_err-check_indices
 returns-in_err-check_indices c =
     let a = c.args in
     let s = a.sheet.now in
     let p = err_from_is_err_and c.from_residual-in_err-check_indices.result c.from_residual-in_err-check_indices.ensures.1 in
-    rw (p.1, p.2) (sym (c.in_err-check_indices.ensures ∙ rw c.window.ensures (after_tables a.logs.now a.pows.now s c.in_ok-check_pitch.ensures (sym c.in_ok-tables.ensures.0))))
+    rw (p.1, p.2) (sym (c.in_err-check_indices.ensures ∙ rw c.window.ensures (after_tables a.logs.now a.pows.now s c.in_ok-check_pitch.ensures (sym c.in_ok-tables.ensures.value.0))))
 
 pub returns : goal.returns
 returns c =
     let a = c.args in
     let s = a.sheet.now in
-    (sym (c.in_ok-check_indices.ensures ∙ rw c.window.ensures (after_tables a.logs.now a.pows.now s c.in_ok-check_pitch.ensures (sym c.in_ok-tables.ensures.0))), c.in_ok-tables.ensures.1)
+    (sym (c.in_ok-check_indices.ensures ∙ rw c.window.ensures (after_tables a.logs.now a.pows.now s c.in_ok-check_pitch.ensures (sym c.in_ok-tables.ensures.value.0))), c.in_ok-tables.ensures.value.1)

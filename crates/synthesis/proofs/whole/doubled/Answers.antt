@@ -1,6 +1,6 @@
 -- `synthesis::doubled` meets its contract: it tests twice the product.
 use Rattle.std.proofs.Common.{pos, ◌*ℤ◌, w32, to_z-of_z}
-use lib.IntN.{*ℤ_comm}
+use Rattle.std.proofs.Math.IntN.{*ℤ_comm}
 use Rattle.lists.proofs.Signed.{got}
 use Rattle.synthesis.proofs.whole.doubled.Goals as goal
 

@@ -1,6 +1,6 @@
 -- `synthesis::product` meets its contract: the product fits 32 bits, and y is at most 32768 in size.
 use Rattle.std.proofs.Common.{◌≡◌, refl, le_refl, nat_abs, w32, to_z, of_z, to_z-of_z}
-use lib.Signed.{nat_abs-le}
+use Rattle.std.specs.Int.Signed.{nat_abs-le}
 use Rattle.basicop.proofs.Range.{mul_bound, sfits_mul}
 use Rattle.lists.proofs.Signed.{got}
 use Rattle.synthesis.proofs.whole.product.Goals as goal

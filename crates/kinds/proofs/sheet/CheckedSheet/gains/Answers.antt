@@ -54,7 +54,7 @@ returns-in-Frame c =
     let x = a.self.numbers.now in
     let pitch : SFits w16 (at x (14 + 2 * a.subframe)) = search rules in
     let code : SFits w16 (at x (15 + 2 * a.subframe)) = search rules in
-    let value : gains_with c.update_good.result a.memory.gain_decoder ≡ (kind_of (checked_kind a.self.kind)).gains x a.erased a.subframe (lag_of a.lag) a.memory = rw (c.in-Frame.is, c.update_good.ensures, to_z-of_z pitch, to_z-of_z code) refl in
+    let value : gains_with c.update_good.result a.memory.gain_decoder ≡ (kind_of (checked_kind a.self.kind)).gains x a.erased a.subframe (lag_of a.lag) a.memory = rw (c.in-Frame.is, c.update_good.ensures.value, to_z-of_z pitch, to_z-of_z code) refl in
     record { value = value; kept = next_kept x a.erased a.subframe (lag_of a.lag) a.memory (checked_kind a.self.kind) (own_kept (checked_kind a.self.kind) x (ap is_accepted a.self.own)) c.requires.place c.requires.kept value }
 
 pub returns-in-Index : goal.returns-in-Index
@@ -67,7 +67,7 @@ returns-in-Index c =
     let i = (own a.self.kind x c.in-Index.is a.self.own).1.1.1 a.subframe c.requires.place in
     let value : gains_with c.update_good-in-Index.result c.decode_gains-decoded.result.gain_decoder ≡ (kind_of (checked_kind a.self.kind)).gains x a.erased a.subframe (lag_of a.lag) a.memory =
     rw c.in-Index.is
-    (index_found x a.erased a.subframe (lag_of a.lag) a.memory t.logs.now t.pows.now (rw c.in-Index.is at c.requires.innovation) c.sharpen-sharpened.ensures (cast_gives w16 z f i.0) c.decode_gains-decoded.ensures c.update_good-in-Index.ensures) in
+    (index_found x a.erased a.subframe (lag_of a.lag) a.memory t.logs.now t.pows.now (rw c.in-Index.is at c.requires.innovation) c.sharpen-sharpened.ensures (cast_gives w16 z f i.0) c.decode_gains-decoded.ensures c.update_good-in-Index.ensures.value) in
     record { value = value; kept = next_kept x a.erased a.subframe (lag_of a.lag) a.memory (checked_kind a.self.kind) (own_kept (checked_kind a.self.kind) x (ap is_accepted a.self.own)) c.requires.place c.requires.kept value }
 
 pub returns-in-Erased : goal.returns-in-Erased
@@ -78,5 +78,5 @@ returns-in-Erased c =
     let f : SFits w16 z = search rules in
     let s = own a.self.kind x c.in-Erased.is a.self.own in
     let value : gains_with c.conceal.result c.conceal_energy.result ≡ (kind_of (checked_kind a.self.kind)).gains x a.erased a.subframe (lag_of a.lag) a.memory =
-    rw c.in-Erased.is (erased_found x a.erased a.subframe (lag_of a.lag) a.memory (cast_gives w16 z f s.0) c.conceal.ensures c.conceal_energy.ensures) in
+    rw c.in-Erased.is (erased_found x a.erased a.subframe (lag_of a.lag) a.memory (cast_gives w16 z f s.0) c.conceal.ensures.value c.conceal_energy.ensures) in
     record { value = value; kept = next_kept x a.erased a.subframe (lag_of a.lag) a.memory (checked_kind a.self.kind) (own_kept (checked_kind a.self.kind) x (ap is_accepted a.self.own)) c.requires.place c.requires.kept value }

@@ -1,7 +1,7 @@
 -- `Row::untested` meets its contract: after k taps the half is at most 32768 times the weight so far in size, so that no number lies outside.
 use Rattle.std.proofs.Common.{◌<◌, rules, ltb-true, Bor, sym, ◌∙◌, add-one, ℤ, pos, length, w16, w32, to_z, of_z, to_z-of_z}
 use Rattle.std.proofs.lemmas.List.{length_push}
-use lib.IntN.{*ℤ_comm}
+use Rattle.std.proofs.Math.IntN.{*ℤ_comm}
 use Rattle.lists.specs.Lists.{at}
 use Rattle.lists.proofs.Signed.{back}
 use Rattle.synthesis.specs.Inner.{weight}

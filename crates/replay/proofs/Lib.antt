@@ -1,2 +1,0 @@
--- Rows: four rows, each read where the one before ends.
-pub mod Rows
