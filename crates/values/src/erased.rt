@@ -148,3 +148,34 @@ pub fn stages(rt: &impl Print) -> io::Result<()> {
         gains.pitch.0, gains.code.0
     )
 }
+
+fn sent(pitch: i16, code: i16) -> Gains {
+    Gains {
+        pitch: Q14(pitch),
+        code: Q1(code),
+    }
+}
+
+// the gains of a good frame after an erased one, each held to the last good ones, of which the first are 8000 and 300; and lags at the end of their range
+pub fn held(rt: &impl Print) -> io::Result<()> {
+    let mut gains = gains_after([0; 5], [0; 5], 0, 0);
+    for _ in 0..4 {
+        gains = gains.update_good(sent(8000, 300), false).next;
+    }
+    for _ in 0..4 {
+        gains = gains.conceal(2).next;
+    }
+    for (pitch, code) in [(9000, 200), (7000, 400), (9000, 100), (8000, 50)] {
+        let used = gains.update_good(sent(pitch, code), true);
+        println!(rt;
+            "held {pitch} {code}: {} {}",
+            used.gains.pitch.0, used.gains.code.0
+        )?;
+        gains = used.next;
+    }
+    for last in [142, 143, 144] {
+        let [a, b, c, d] = lags(last).map(|lag| lag.samples);
+        println!(rt; "after lag {last}: {a} {b} {c} {d}")?;
+    }
+    Ok(())
+}

@@ -189,6 +189,7 @@ fn main(rt: HostRuntime) -> Result<()> {
     gains::frame_of_gains(&rt)?;
     erased::frames(&rt)?;
     erased::stages(&rt)?;
+    erased::held(&rt)?;
     records::read_versions(&rt)?;
     peaks(&rt)?;
     peak_below_zero(&rt)?;
