@@ -1,5 +1,5 @@
 -- The shift report, whole, of the bench program's whole input: docs/BENCH.md, "Shift report".
-use Rattle.std.specs.Prelude.{◌≡◌, if◌then◌else◌, List, map, ℕ, ◌+◌, ◌*◌, ◌/◌, ◌<◌, ◌≤◌, ◌==◌, pos, length, take, drop, replicate, codes}
+use Rattle.std.specs.Prelude.{◌≡◌, if◌then◌else◌, List, [], map, ℕ, ◌+◌, ◌*◌, ◌/◌, ◌<◌, ◌≤◌, ◌==◌, pos, length, take, drop, replicate, codes}
 use Rattle.lists.specs.Lists.{selected}
 use Rattle.state.specs.declared.State.{State}
 use Rattle.outcome.specs.Outcome.{number_of, is_accepted}
