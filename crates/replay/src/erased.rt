@@ -35,7 +35,7 @@ pub fn mixed(record: &mut Reader) -> Option<bool> {
     let answer = match kind {
         0 => EnergiesAnswer {
             frame: mr74::frame(&sheet, state, &mut samples),
-            next: decoder,
+            gain_decoder: decoder,
         },
         1 => {
             let sheet = sheet.get(..INDEX_SHEET)?;
