@@ -1,13 +1,11 @@
--- `RefusedUnchanged` (capi/specs/Capi.antt) applied to two frame calls over bytes, one turned back by its sheet and one by its state; and the places
--- of the first, computed. `IndexedUnchanged` and `GainUnchanged` (capi/specs/Indexed.antt) applied to a call that is lent no table, and to one of the
--- index 128; `ErasedUnchanged` (Erased.antt) to one of stage 0 whose state is all zeros.
+-- `RefusedUnchanged` (capi/specs/Frames.antt) applied to a call of each kind over bytes: to two of a frame sheet, one turned back by its sheet and one by its state,
+-- with the places of the first, computed; to one of an index sheet that is lent no table; and to one of an erased sheet of stage 0 whose state is all zeros.
+-- `GainUnchanged` (Gains.antt) applied to a call of the index 128.
 -- The theorem is `unchanged_applied` in proofs/Capi.antt.
 use Rattle.std.specs.Prelude.{◌≡◌, List, [], ◌∷◌, ◌++◌, ℕ, ◌+◌, ◌*◌, pos, replicate}
 use Rattle.coding.specs.Bytes.{bytes_of}
-use Rattle.capi.specs.Capi.{FrameReturn, frame_bytes}
-use Rattle.capi.specs.Energies.{EnergiesReturn}
-use Rattle.capi.specs.Indexed.{indexed_bytes, GainReturn, gain_bytes}
-use Rattle.capi.specs.Erased.{erased_bytes}
+use Rattle.capi.specs.Frames.{FrameReturn, frame_bytes, index_bytes, erased_bytes}
+use Rattle.capi.specs.Gains.{GainReturn, gain_bytes}
 use Rattle.applied.specs.Refusals.{lowest}
 
 -- of a sheet and a state's bytes: the output is 320 bytes of 9, rows and places are zeros
@@ -26,12 +24,12 @@ abbrev pub unmet : FrameReturn
 unmet = returned lowest_sheet (replicate 426 255)
 
 -- an index sheet of zeros but for its LSFs, and tables without a number: 7
-abbrev pub untabled : EnergiesReturn
+abbrev pub untabled : FrameReturn
 untabled =
-    indexed_bytes (bytes_of (lowest ++ replicate 168 (pos 0))) (replicate 426 0) (replicate 320 9) (replicate 88 0) (replicate 4 0) [] [] (replicate 8 7)
+    index_bytes (bytes_of (lowest ++ replicate 168 (pos 0))) (replicate 426 0) (replicate 320 9) (replicate 88 0) (replicate 4 0) [] [] (replicate 8 7)
 
 -- an erased sheet of zeros but for its LSFs, and a state of zeros, whose last lag is 0: 19, with its place 197
-abbrev pub lost : EnergiesReturn
+abbrev pub lost : FrameReturn
 lost = erased_bytes (bytes_of (lowest ++ replicate 161 (pos 0))) (replicate 426 0) (replicate 320 9) (replicate 88 0) (replicate 4 0) (replicate 8 7)
 
 -- the index 128, and tables of zeros: 8
@@ -47,13 +45,13 @@ pub record UnchangedApplied : Type 0 where
   pub unmet_code : unmet.code ≡ 16
   pub unmet_state : unmet.state ≡ replicate 426 255
   pub unmet_out : unmet.out ≡ replicate 320 9
-  pub untabled_code : untabled.frame.code ≡ 7
-  pub untabled_state : untabled.frame.state ≡ replicate 426 0
-  pub untabled_out : untabled.frame.out ≡ replicate 320 9
+  pub untabled_code : untabled.code ≡ 7
+  pub untabled_state : untabled.state ≡ replicate 426 0
+  pub untabled_out : untabled.out ≡ replicate 320 9
   pub untabled_energies : untabled.energies ≡ replicate 8 7
-  pub lost_code : lost.frame.code ≡ 19 + 256 * 197
-  pub lost_state : lost.frame.state ≡ replicate 426 0
-  pub lost_out : lost.frame.out ≡ replicate 320 9
+  pub lost_code : lost.code ≡ 19 + 256 * 197
+  pub lost_state : lost.state ≡ replicate 426 0
+  pub lost_out : lost.out ≡ replicate 320 9
   pub lost_energies : lost.energies ≡ replicate 8 7
   pub unlisted_code : unlisted.code ≡ 8
   pub unlisted_energies : unlisted.energies ≡ replicate 8 7
