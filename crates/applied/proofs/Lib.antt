@@ -18,6 +18,7 @@ pub mod Records
 pub mod Synthesis
 pub mod Postfilter
 pub mod Capi
+pub mod Lengths
 pub mod Listing
 pub mod Peaks
 pub mod Report

@@ -15,6 +15,7 @@ pub mod Calls
 pub mod Synthesis
 pub mod Postfilter
 pub mod Capi
+pub mod Lengths
 pub mod Listing
 pub mod Handover
 pub mod Records

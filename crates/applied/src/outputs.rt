@@ -1,5 +1,6 @@
 // Bytes, records and the programs' outputs, computed and applied.
 ghost use Rattle.applied.specs.Capi.{UnchangedApplied};
+ghost use Rattle.applied.specs.Lengths.{LengthsApplied};
 ghost use Rattle.applied.specs.Records.{ReaderOrder, FirstOrder, WriterOrder};
 ghost use Rattle.applied.specs.Handover.{ReadApplied, TurnedBack, FirstApplied, RestApplied, BackApplied, AcceptedApplied};
 ghost use Rattle.applied.specs.Listing.{Listing, StepsApplied};
@@ -8,7 +9,8 @@ ghost use Rattle.applied.specs.Report.{ReportApplied};
 
 /// Calls over bytes that are refused.
 pub fn refused_bytes()
-    ensures { UnchangedApplied }
+    ensures unchanged { UnchangedApplied }
+    ensures lengths { LengthsApplied }
 {}
 
 /// The orders of the reader and of the writer.

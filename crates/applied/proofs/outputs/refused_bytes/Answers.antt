@@ -1,6 +1,7 @@
--- The theorem of proofs/Capi.antt.
+-- The theorems of proofs/Capi.antt and Lengths.antt.
 use Rattle.applied.proofs.Capi.{unchanged_applied}
+use Rattle.applied.proofs.Lengths.{lengths_applied}
 use Rattle.applied.proofs.outputs.refused_bytes.Goals as goal
 
 pub returns : goal.returns
-returns c = unchanged_applied
+returns c = record { unchanged = unchanged_applied; lengths = lengths_applied }
