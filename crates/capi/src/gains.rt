@@ -3,7 +3,7 @@ ghost use Rattle.std.specs.Prelude.{◌≡◌};
 ghost use Rattle.coding.specs.Bytes.{words};
 ghost use Rattle.gain.specs.Call.{gain_call};
 ghost use Rattle.capi.specs.Frames.{table_in};
-ghost use Rattle.capi.specs.Gains.{gain_pair_bytes, gain_return, gain_bytes, GainUnchanged};
+ghost use Rattle.capi.specs.Gains.{gain_pair_bytes, gain_return, gain_bytes};
 
 use super::lent::{as_lent, energies_in, lent_numbers, write_energies};
 use super::{GAINS_BYTES, INNOVATION_BYTES, TABLE, UNFIT, code};
@@ -65,8 +65,3 @@ pub fn mr74_gain_decode(
     write_gains(answer.gains, gains);
     code(answer.outcome)
 }
-
-/// What a caller may rely on: a refused call of one index leaves the lent energies as they were. A law; it does nothing.
-pub fn gain_unchanged()
-    ensures { GainUnchanged }
-{}

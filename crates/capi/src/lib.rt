@@ -5,6 +5,7 @@ ghost use Rattle.std.specs.Prelude.{◌≡◌, ◌<◌, []};
 ghost use Rattle.outcome.specs.Outcome.{place_of};
 ghost use Rattle.capi.specs.Capi.{code_of, read_return, read_bytes, write_return, write_bytes};
 ghost use Rattle.capi.specs.Frames.{frame_return, frame_bytes, index_bytes, erased_bytes, RefusedUnchanged};
+ghost use Rattle.capi.specs.Gains.{GainUnchanged};
 ghost use Rattle.capi.specs.Lengths.{OtherSheet, OtherOutput, OtherTable};
 
 mod frames;
@@ -12,7 +13,7 @@ mod gains;
 mod lent;
 
 use frames::call;
-pub use gains::{gain_unchanged, mr74_gain_decode};
+pub use gains::mr74_gain_decode;
 use lent::{as_lent, lent_numbers};
 use mr74::{ERASED_SHEET, INDEX_SHEET, SAMPLES, SHEET, SheetKind};
 use outcome::Outcome;
@@ -108,18 +109,6 @@ pub fn mr74_frame_erased(
     call::<ERASED_SHEET>(SheetKind::Erased, sheet, state, out, rows, places, energies)
 }
 
-/// What a caller may rely on: a refused call of any kind leaves the lent state, output and energies as they were. A law; it does nothing.
-pub fn refused_unchanged()
-    ensures { RefusedUnchanged }
-{}
-
-/// What bytes come to that are no sheet, no output or no table by their length: 1, 5 or 7. A law; it does nothing.
-pub fn other_lengths()
-    ensures sheet { OtherSheet }
-    ensures output { OtherOutput }
-    ensures table { OtherTable }
-{}
-
 // ---- the reader
 /// The record's reader: the state in `state`, the length of the note, which is what the record begins with, in `note`; both zero where it refuses.
 pub fn mr74_read(bytes: &[u8], state: &mut [u8], note: &mut usize) -> u32
@@ -144,3 +133,13 @@ pub fn mr74_write(state: &[u8], bytes: &mut [u8]) -> u32
     };
     code(record::write(coding::state_in(state), bytes))
 }
+
+/// What is promised of the calls beside what they return: a refused one leaves the lent state, output and energies; and bytes that are no sheet, no output or no
+/// table by their length are refused by 1, 5 and 7.
+pub fn laws()
+    ensures refused { RefusedUnchanged }
+    ensures gain { GainUnchanged }
+    ensures sheet { OtherSheet }
+    ensures output { OtherOutput }
+    ensures table { OtherTable }
+{}
