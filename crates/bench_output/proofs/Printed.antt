@@ -1,5 +1,5 @@
 -- What the rounds of the loop have printed, and what is still to come, where it is known what the input has left and what the output holds; and the whole.
-use Rattle.std.proofs.Common.{◌≡◌, ℕ, suc, ◌+◌, List, [], ◌∷◌, ◌++◌, ◌*◌, ◌<◌, ◌≤◌, Option, None, Some, IfSome, length, take, drop, arith, sym, ap, ◌∙◌, subst, refl, append_assoc, append-nil}
+use Rattle.std.proofs.Common.{◌≡◌, ℕ, suc, ◌+◌, List, [], ◌∷◌, ◌++◌, ◌*◌, ◌<◌, ◌≤◌, Option, None, Some, IfSome, length, take, drop, option_map, arith, sym, ap, ◌∙◌, subst, refl, append_assoc, append-nil}
 use Rattle.std.specs.Io.KnownBytes.{Appends}
 use Rattle.std.proofs.KnownBytes.{Appends-nil, Appends-trans}
 use Rattle.lists.specs.Parts.{joined}
@@ -11,9 +11,8 @@ use Rattle.sheets.specs.Rounds.{rounds}
 use Rattle.sheets.proofs.Rounds as sheet_rounds
 use Rattle.bench_output.specs.declared.Carried.{Carried}
 use Rattle.bench_output.specs.Output.{bench_output}
-use Rattle.bench_output.specs.Steps.{carried, sheet_step, program_output}
+use Rattle.bench_output.specs.Steps.{carried, numbered, sheet_step, program_output}
 use Rattle.bench_output.specs.Serving.{ServesSheet}
-use Rattle.bench_output.proofs.Answers.{next_number}
 use Rattle.bench_output.proofs.Steps.{steps_output}
 
 joined-push : (made : List (List ℕ)) (line : List ℕ) → joined (made ++ (line ∷ [])) ≡ joined made ++ line
@@ -28,12 +27,12 @@ pub printed_none : (input old : Option (List ℕ)) (k : ℕ) (first : Carried) �
 printed_none input old k first = ([], Appends-nil old, sheet_rounds.none_over sheet_step input k (Some first))
 
 -- a round
-pub printed_more : (input ys zs old mid new : Option (List ℕ)) (k : ℕ) (first : Carried) (i j : ℕ) (c : Carried) (given next : Option Carried) → Printed input ys old mid k first i given
-    → given ≡ Some c → ServesSheet ys zs mid new c next → i ≡ suc j → Printed input zs old new k first j next
+pub printed_more : (input ys zs old mid new : Option (List ℕ)) (k : ℕ) (first : Carried) (i j : ℕ) (c : Carried) (given next : Option State) → Printed input ys old mid k first i (option_map (carried c.number) given)
+    → given ≡ Some c.state → ServesSheet ys zs mid new c next → i ≡ suc j → Printed input zs old new k first j (option_map (carried (c.number + 1)) next)
 printed_more input ys zs old mid new k first i j c given next (made, wrote, all) e (came, line, took, writes, step) q = (
   made ++ (line ∷ []),
   subst (Appends old new) (sym (joined-push made line)) (Appends-trans old mid new (joined made) line wrote writes),
-  sheet_rounds.round_over sheet_step input ys zs k (Some first) made i j c came (step_result line next) (rw e at all) took step q,
+  sheet_rounds.round_over sheet_step input ys zs k (Some first) made i j c came (numbered c (step_result line next)) (rw e at all) took step q,
 )
 
 all_written : (input old new : Option (List ℕ)) (k : ℕ) (first : Carried) (made : List (List ℕ)) → Appends old new (joined made)
@@ -42,31 +41,12 @@ all_written None old new k first made w e = tt
 all_written (Some xs) old new k first made w e = subst (λ (m : List (List ℕ)). Appends old new (joined m)) (sym e) w
 
 -- nothing is carried on, or no round is left
-module _ (input ys old new : Option (List ℕ)) (k : ℕ) (first : Carried) (j : ℕ) (next : Option Carried) where
-  pub printed_last : Printed input ys old new k first j next → next ≡ None → IfSome input (λ xs. Appends old new (joined (rounds sheet_step k (Some first) xs)))
-  printed_last (made, wrote, all) e = all_written input old new k first made wrote (sheet_rounds.none_left sheet_step input ys k (Some first) made j next all e)
+module _ (input ys old new : Option (List ℕ)) (k : ℕ) (first : Carried) (j n : ℕ) (next : Option State) where
+  pub printed_last : Printed input ys old new k first j (option_map (carried n) next) → next ≡ None → IfSome input (λ xs. Appends old new (joined (rounds sheet_step k (Some first) xs)))
+  printed_last (made, wrote, all) e = all_written input old new k first made wrote (sheet_rounds.none_left sheet_step input ys k (Some first) made j (option_map (carried n) next) all (ap (option_map (carried n)) e))
 
-  pub printed_all : Printed input ys old new k first j next → j ≡ 0 → IfSome input (λ xs. Appends old new (joined (rounds sheet_step k (Some first) xs)))
-  printed_all (made, wrote, all) e = all_written input old new k first made wrote (sheet_rounds.zero_left sheet_step input ys k (Some first) made j next all e)
-
--- the numbers go up by one
-number_served : (ys zs mid new : Option (List ℕ)) (c d : Carried) (next : Option Carried) → ServesSheet ys zs mid new c next → next ≡ Some d → d.number ≡ c.number + 1
-number_served ys zs mid new c d next (came, line, took, writes, step) e = next_number c d came (sym (ap (λ (r : Step (List ℕ) Carried). r.next) step) ∙ e)
-
--- the number that is carried on is at most n
-abbrev pub NumberAtMost : Option Carried → ℕ → Type 0
-NumberAtMost next n = (c : Carried) → next ≡ Some c → c.number ≤ n
-
-pub numbered_first : (first : State) (n : ℕ) → 1 ≤ n → NumberAtMost (Some (carried 1 first)) n
-numbered_first first n h c e = omega (arith, ap number_of_some e, h)
-  where
-    number_of_some : Option Carried → ℕ
-    number_of_some None = 0
-    number_of_some (Some c) = c.number
-
-pub numbered_more : (ys zs mid new : Option (List ℕ)) (c : Carried) (given next : Option Carried) (n : ℕ) → NumberAtMost given n → given ≡ Some c
-    → ServesSheet ys zs mid new c next → NumberAtMost next (n + 1)
-numbered_more ys zs mid new c given next n h e t d f = omega (arith, h c e, number_served ys zs mid new c d next t f)
+  pub printed_all : Printed input ys old new k first j (option_map (carried n) next) → j ≡ 0 → IfSome input (λ xs. Appends old new (joined (rounds sheet_step k (Some first) xs)))
+  printed_all (made, wrote, all) e = all_written input old new k first made wrote (sheet_rounds.zero_left sheet_step input ys k (Some first) made j (option_map (carried n) next) all e)
 
 -- ---- the whole: the record's step, and the rounds after it
 module _ (k : ℕ) (xs came line : List ℕ) (f : came ≡ take record_bytes xs) where

@@ -24,6 +24,10 @@ sheet_step c bytes =
     then step_result (answer_line c.number k) (Some (carried (c.number + 1) k.answer.next))
     else step_result (cut_line c.number) None
 
+-- a step that gives the state for the next sheet, with the number of that sheet
+abbrev pub numbered : Carried → Step (List ℕ) State → Step (List ℕ) Carried
+numbered c r = step_result r.made (option_map (carried (c.number + 1)) r.next)
+
 -- what the program prints: of the record, and of at most so many rounds over the sheets after it, the first of them with number 1
 unfoldable pub program_output : ℕ → List ℕ → List ℕ
 program_output k input =

@@ -1,10 +1,10 @@
 //! The bench program: what it prints of each sheet that it reads, and the whole of it over any reader and writer.
 #![tactic(auto)]
 
-ghost use Rattle.std.specs.Prelude.{◌≡◌, ◌<◌};
+ghost use Rattle.std.specs.Prelude.{◌≡◌};
 ghost use Rattle.mr74.specs.Frame.{call_result};
 ghost use Rattle.bench_output.specs.Output.{answer_line};
-ghost use Rattle.bench_output.specs.Steps.{sheet_step, StepsOutput};
+ghost use Rattle.bench_output.specs.Steps.{numbered, sheet_step, StepsOutput};
 
 mod serving;
 
@@ -14,7 +14,7 @@ pub use serving::serve;
 use sheets::{Decoded, Step};
 use state::State;
 
-/// What is carried from a sheet to the next: the number of the sheet that comes, and the state for it.
+/// What a sheet is told and decoded with: its number, and the state for it.
 #[derive(Clone, Copy)]
 pub struct Carried {
     pub number: u64,
@@ -32,26 +32,21 @@ fn answer_line(number: u64, answer: FrameAnswer, samples: [i16; SAMPLES]) -> Lin
 }
 
 // A whole sheet: its line, and the state that its call gives back.
-fn whole_step(sheet: &[u8; SHEET_BYTES], carried: Carried) -> Step<Line, Carried>
-    requires { carried.number < u64.MAX }
-    ensures { result ≡ sheet_step carried sheet.now }
+fn whole_step(sheet: &[u8; SHEET_BYTES], carried: Carried) -> Step<Line, State>
+    ensures { numbered carried result ≡ sheet_step carried sheet.now }
 {
     let Carried { number, state } = carried;
     let Decoded { answer, samples } = sheets::decode_bytes(sheet, state);
-    let next = Carried {
-        number: number + 1,
-        state: answer.next,
-    };
+    let next = answer.next;
     Step {
         made: answer_line(number, answer, samples),
         next: Some(next),
     }
 }
 
-/// The step of what was read of a sheet: all of it, nothing, or some.
-pub fn step(bytes: &[u8], carried: Carried) -> Step<Line, Carried>
-    requires { carried.number < u64.MAX }
-    ensures { result ≡ sheet_step carried bytes.now }
+/// The step of what was read of a sheet, of any number: all of it, nothing, or some. It gives the state for the next sheet, where there is a next one.
+pub fn step(bytes: &[u8], carried: Carried) -> Step<Line, State>
+    ensures { numbered carried result ≡ sheet_step carried bytes.now }
 {
     match bytes.as_array() {
         Some(sheet) => whole_step(sheet, carried),

@@ -11,7 +11,9 @@ mod numbers;
 
 pub use numbers::{numbers_in, put, unsigned, word};
 use postfilter::Postfilter;
-use state::{NUMBERS, POST_NUMBERS, SIGNAL_NUMBERS, State};
+use state::{CORE_NUMBERS, NUMBERS, POST_NUMBERS, SIGNAL_NUMBERS, State};
+
+pub const CORE_BYTES: usize = 2 * CORE_NUMBERS;
 
 pub const POST_BYTES: usize = 2 * POST_NUMBERS;
 

@@ -25,7 +25,7 @@ subframe_of p = record { lag = lag_of p.lag; pitch = p.gains.pitch.0; code = p.g
 abbrev pub inputs_of : Inputs → FrameInputs
 inputs_of i = record { lsfs = i.lsfs; subframes = subframe_of i.a ∷ subframe_of i.b ∷ subframe_of i.c ∷ subframe_of i.d ∷ [] }
 
--- ---- what the checks of an accepted call have shown of its inputs; of the code's, the types `Parameters` and `Inputs` say it
+-- ---- what the checks of an accepted call have shown of its inputs; of the code's, the types `Parameters` and `Inputs` say it, but for the pitch gain
 -- the lag lies in 19..=144, and the pitch gain is not negative
 pub record UsableSubframe (p : SubframeInputs) : Type 0 where
   pub from : pos 19 ≤ℤ p.lag.samples

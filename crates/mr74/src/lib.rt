@@ -7,7 +7,7 @@ ghost use Rattle.kinds.specs.Kind.{kind_of};
 ghost use Rattle.kinds.specs.Checked.{lent_kind};
 ghost use Rattle.kinds.specs.Inner.{prepared_of};
 ghost use Rattle.mr74.specs.Frame.{accepted_trace, call_result, energies_result, energies_result_of, frame_call, index_call, erased_call};
-ghost use Rattle.mr74.specs.Divisions.{EveryDivision};
+ghost use Rattle.mr74.specs.Divisions.{DivisionsOfInputs, EveryDivision};
 ghost use Rattle.mr74.specs.Indexed.{IndexIsFrame};
 ghost use Rattle.mr74.specs.Sharpening.{SharpeningIsCore};
 ghost use Rattle.mr74.specs.Inner.{kind_call, refused_answer};
@@ -174,5 +174,6 @@ pub fn frame_erased(
 pub fn laws()
     ensures index { IndexIsFrame }
     ensures sharpening { SharpeningIsCore }
+    ensures inputs { DivisionsOfInputs }
     ensures divisions { EveryDivision }
 {}

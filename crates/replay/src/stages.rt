@@ -18,7 +18,7 @@ pub fn lag_agrees(record: &mut Reader, lag: PitchLag) -> Option<bool> {
 
 pub fn lag(record: &mut Reader) -> Option<bool> {
     let relative = record.bits()? == 1;
-    let index = u8::try_from(record.bits()?).ok()?;
+    let [index, _] = record.bits()?.to_le_bytes();
     let before = PitchLag {
         samples: record.bits()?,
         fraction: Fraction::Zero,
@@ -46,17 +46,21 @@ pub fn interpolate(record: &mut Reader) -> Option<bool> {
     Some(rows_same(record.rows()?, rows))
 }
 
-// The fraction of so many thirds.
-fn fraction_of(thirds: i16) -> Option<Fraction> {
-    [Fraction::MinusThird, Fraction::Zero, Fraction::PlusThird]
-        .into_iter()
-        .find(|fraction| fraction.thirds() == thirds)
+// The fraction by the sign of its thirds.
+fn fraction_of(thirds: i16) -> Fraction {
+    if thirds < 0 {
+        Fraction::MinusThird
+    } else if 0 < thirds {
+        Fraction::PlusThird
+    } else {
+        Fraction::Zero
+    }
 }
 
 pub fn predict(record: &mut Reader) -> Option<bool> {
     let past = record.numbers()?;
     let samples = record.bits()?;
-    let fraction = fraction_of(record.number()?)?;
+    let fraction = fraction_of(record.number()?);
     if !(19..=144).contains(&samples) {
         return Some(false);
     }

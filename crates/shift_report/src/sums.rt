@@ -1,5 +1,5 @@
 //! The totals of one call, and of two lists of calls together.
-ghost use Rattle.std.specs.Prelude.{◌≡◌, []};
+ghost use Rattle.std.specs.Prelude.{◌≡◌, ◌+◌, []};
 ghost use Rattle.shift_report.specs.Totals.{retried_in, square, square_sum, totals_of};
 ghost use Rattle.shift_report.specs.Steps.{plus, sheets_counted, Bounded};
 ghost use Rattle.shift_report.specs.Serving.{CountsCall, FitTogether};
@@ -61,7 +61,9 @@ pub fn count_call(outcome: Outcome, places: [usize; 4], samples: [i16; SAMPLES])
 #[tactic(auto, unfolding(crate::specs::Steps::plus))]
 pub fn add(a: Totals, b: Totals) -> Totals
     requires { FitTogether a b }
-    ensures { result ≡ plus a b }
+    ensures sum { result ≡ plus a b }
+    ensures bounded { Bounded result }
+    ensures counted { sheets_counted result ≡ sheets_counted a + sheets_counted b }
 {
     Totals {
         accepted: a.accepted + b.accepted,

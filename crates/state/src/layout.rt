@@ -10,12 +10,12 @@ use energy::GainControl;
 use gain_concealment::GainConcealment;
 use postfilter::Postfilter;
 
-// How many numbers the parts have.
-const LSP: usize = 10;
+/// How many numbers the parts have.
+pub const LSP: usize = 10;
 
-const PAST: usize = 154;
+pub const PAST: usize = 154;
 
-const HISTORY: usize = 10;
+pub const HISTORY: usize = 10;
 
 pub const CORE_NUMBERS: usize = LSP + PAST + 1 + HISTORY;
 

@@ -9,8 +9,10 @@ mod layout;
 
 use decoder::Core;
 use gain_concealment::GainConcealment;
-use layout::{CONCEALMENT_NUMBERS, CORE_NUMBERS, concealment_numbers};
-pub use layout::{POST_NUMBERS, numbers_of, post_numbers, post_of, state_of};
+use layout::{CONCEALMENT_NUMBERS, concealment_numbers};
+pub use layout::{
+    CORE_NUMBERS, HISTORY, LSP, PAST, POST_NUMBERS, numbers_of, post_numbers, post_of, state_of,
+};
 use outcome::{Outcome, Refusal};
 use postfilter::Postfilter;
 

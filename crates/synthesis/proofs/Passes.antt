@@ -41,7 +41,7 @@ feeding_more {make} {x} {h} {buf} {n} {v} r l e =
       rest = rw k (drop-set-lt (suc (n + 10)) buf (n + 10) v (omega arith) ∙ ap (drop 1) (sym (drop-cons buf (n + 10) (pos 0) lb) ∙ rw z at r.rest));
     }
 
-feeding_done : {make : ℤ → List ℤ → ℤ} {x h buf : List ℤ} {n : ℕ} → Feeding make x h buf n → buf ≡ recursion make (take n x) h ++ replicate (40 - n) (pos 0)
+pub feeding_done : {make : ℤ → List ℤ → ℤ} {x h buf : List ℤ} {n : ℕ} → Feeding make x h buf n → buf ≡ recursion make (take n x) h ++ replicate (40 - n) (pos 0)
 feeding_done {buf = buf} {n = n} r = sym (take-append-drop (n + 10) buf) ∙ ap₂ ◌++◌ r.made r.rest
 
 -- without the history

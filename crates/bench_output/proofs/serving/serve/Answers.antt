@@ -6,9 +6,9 @@ use Rattle.bench_output.proofs.serving.serve.Goals as goal
 pub returns-in_ok-run : goal.returns-in_ok-run
 returns-in_ok-run g c =
     let (came, took, step) = c.in_ok-opening.ensures.step in
-    whole_more _ _ _ _ _ 18446744073709551614 18446744073709551616 came _ _ (omega arith) took (rw c.in-Some.is at step) c.in_ok-write_line.ensures.ok c.in_ok-run.ensures
+    whole_more _ _ _ _ _ 18446744073709551615 18446744073709551616 came _ _ (omega arith) took (rw c.in-Some.is at step) c.in_ok-write_line.ensures.ok c.in_ok-run.ensures
 
 pub returns-in_default : goal.returns-in_default
 returns-in_default g c =
     let (came, took, step) = c.in_ok-opening.ensures.step in
-    whole_alone _ _ _ _ 18446744073709551614 18446744073709551616 came _ (omega arith) took (rw c.in_default.is at step) c.in_ok-write_line.ensures.ok
+    whole_alone _ _ _ _ 18446744073709551615 18446744073709551616 came _ (omega arith) took (rw c.in_default.is at step) c.in_ok-write_line.ensures.ok

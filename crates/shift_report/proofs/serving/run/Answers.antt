@@ -19,7 +19,7 @@ loop-preserved g c =
     let step = c.in_ok-step.ensures in
     let (came, took, made) = step.sheet in
     record {
-      running = rw c.add-totals.ensures
+      running = rw c.add-totals.ensures.sum
           (running_more _ _ _ _ _ _ _ (65535 - (c.loop.counter + 1)) _ _ _ before.running c.in-Some.is step.sheet step.bounded step.counted (omega arith));
       taken = taken_more _ _ _ (364 * c.loop.counter) 364 _ came before.taken took (omega arith);
     }
