@@ -12,7 +12,7 @@ pub const LINE_ROOM: usize = 128;
 pub type Line = Text<LINE_ROOM>;
 
 /// The bytes of a text, as far as it is made.
-#[derive(Drop)]
+#[derive(Clone, Drop)]
 pub struct Text<const ROOM: usize> {
     bytes: [u8; ROOM],
     count: usize,

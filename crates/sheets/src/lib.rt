@@ -18,7 +18,7 @@ use std::io;
 use std::io::{ErrorKind, Read, Write};
 use thiserror::Error;
 
-/// What a step of a program makes, and what it carries to the next one, where there is a next one. It is `Copy` where both are.
+/// What a step of a program makes, and what it carries to the next one, where there is a next one. It is `Copy` where both are, and `Clone`.
 #[derive(Clone, Copy, Drop)]
 pub struct Step<T, C> {
     pub made: T,
