@@ -36,3 +36,19 @@ module _ (c : Carried) (bytes : List ℕ) where
   pub step_cut : (line : List ℕ) → ¬ (length bytes ≡ 0) → ¬ (length bytes ≡ 364) → line ≡ cut_line c.number → step_result line None ≡ sheet_step c bytes
   unfolding sheet_step
   step_cut line e f l = rw (ne_eqb (length bytes) 0 e, ne_eqb (length bytes) 364 f, l) refl
+
+-- the sheet after one has the number after its own
+pub next_number : (c d : Carried) (bytes : List ℕ) → (sheet_step c bytes).next ≡ Some d → d.number ≡ c.number + 1
+unfolding sheet_step
+next_number c d bytes e = go (eqb (length bytes) 0) (eqb (length bytes) 364) e
+  where
+    k : CallResult
+    k = sheet_call bytes c.state
+
+    stepped : Bool → Bool → Step (List ℕ) Carried
+    stepped empty full = cond empty (step_result [] None) (cond full (step_result (answer_line c.number k) (Some (carried (c.number + 1) k.answer.next))) (step_result (cut_line c.number) None))
+
+    go : (empty full : Bool) → (stepped empty full).next ≡ Some d → d.number ≡ c.number + 1
+    go true full e = cc
+    go false true e = let same : carried (c.number + 1) k.answer.next ≡ d = cc in sym (ap (λ (x : Carried). x.number) same)
+    go false false e = cc
